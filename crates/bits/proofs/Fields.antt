@@ -1,0 +1,127 @@
+-- The laws of `field`: it fits its width, it splits anywhere, and a byte is the field of 8 bits at it. So the number of the bytes that cover a field
+-- gives the field, by a quotient and a remainder.
+-- Assumes nothing.
+use mathlib.Core.Path.{_≡_, refl}
+use mathlib.Core.List.{List}
+use Prim.Native.Nat.{ℕ, zero, suc, _+_, _-_, _*_, _/_, _%_, _^_, _≤_, _<_}
+use native.Mathlib.Nat.{add-zero, zero-add, add-assoc, suc-add, mod-eq-of-lt, pow-suc, mul-assoc, mul-comm, one-mul, add-mul, lt-of-lt-of-le}
+use native.Mathlib.Numerals.{add-one, one-add}
+use native.Mathlib.Omega.{arith}
+use lib.ListN.{getD}
+use lib.Arith.{digits-lt}
+use lib.Bits.{bitAnd, bitOr, and-mask, or-shifted}
+use lib.Pow.{pow-lt, pow-mono, pow-add, mod-pow-add, shr-shr, high, low}
+use Rattle.bits.specs.Bits.{bit, field, partOf}
+use Rattle.bits.specs.Put.{number}
+
+pub bit-lt : (s : List ℕ) (i : ℕ) → bit s i < 2
+unfolding bit
+bit-lt s i = omega arith
+
+-- ---- a number that is made of bits
+
+-- equal bits make equal numbers
+pub number-same : (f g : ℕ → ℕ) (i w : ℕ) → ((j : ℕ) → i ≤ j → j < i + w → f j ≡ g j) → number f i w ≡ number g i w
+unfolding number
+number-same f g i zero h = refl
+number-same f g i (suc w) h = rw (h i (omega arith) (omega arith), number-same f g (i + 1) w (λ j l m. h j (omega arith) (omega arith)))
+
+-- u + v bits are u bits, then v
+pub number-split : (f : ℕ → ℕ) (i u v : ℕ) → number f i (u + v) ≡ number f i u * 2 ^ v + number f (i + u) v
+unfolding number
+number-split f i zero v = simp (zero-add, add-zero) (omega arith)
+number-split f i (suc u) v =
+    let e : i + suc u ≡ i + 1 + u = omega arith in
+    rw (suc-add, number-split f (i + 1) u v, pow-add 2 u v, e, add-mul, mul-assoc) (omega arith)
+
+module _ (f : ℕ → ℕ) (bits : (j : ℕ) → f j < 2) where
+  pub number-lt : (i w : ℕ) → number f i w < 2 ^ w
+  unfolding number
+  number-lt i zero = omega arith
+  number-lt i (suc w) = rw (pow-suc 2 w, mul-comm (2 ^ w) 2) (digits-lt (bits i) (number-lt (i + 1) w))
+
+  -- what covers w bits gives them: of the bits from i on, u stand before them and c behind
+  pub number-cut : (i u w c : ℕ) → number f i (u + (w + c)) / 2 ^ c % 2 ^ w ≡ number f (i + u) w
+  number-cut i u w c =
+      rw (number-split f i u (w + c), number-split f (i + u) w c, pow-add 2 w c, ← mul-assoc, ← add-assoc, ← add-mul, high _ c (number-lt (i + u + w) c), low _ w (number-lt (i + u) w))
+
+-- ---- a field is one
+
+pub field-number : (s : List ℕ) (i w : ℕ) → field s i w ≡ number (bit s) i w
+unfolding field number
+field-number s i zero = refl
+field-number s i (suc w) = rw (field-number s (i + 1) w)
+
+pub field-lt : (s : List ℕ) (i w : ℕ) → field s i w < 2 ^ w
+field-lt s i w = rw field-number (number-lt (bit s) (bit-lt s) i w)
+
+pub field-split : (s : List ℕ) (i u v : ℕ) → field s i (u + v) ≡ field s i u * 2 ^ v + field s (i + u) v
+field-split s i u v = simp field-number (number-split (bit s) i u v)
+
+pub cut : (s : List ℕ) (i u w c : ℕ) → field s i (u + (w + c)) / 2 ^ c % 2 ^ w ≡ field s (i + u) w
+cut s i u w c = simp field-number (number-cut (bit s) (bit-lt s) i u w c)
+
+-- the w low bits of a byte are a field
+pub low-field : (s : List ℕ) (q j w : ℕ) → j + w ≡ 8 → field s (8 * q + j) w ≡ getD s q 0 % 2 ^ w
+unfolding field bit
+low-field s q j zero e = omega arith
+low-field s q j (suc w) e =
+    let d : (8 * q + j) / 8 ≡ q = omega arith in
+    let m : 7 - (8 * q + j) % 8 ≡ w = omega arith in
+    rw (add-assoc, low-field s q (j + 1) w (omega arith), d, m, ← one-add w, mod-pow-add _ 1 w)
+
+-- a byte is a field of 8 bits
+pub byte-field : (s : List ℕ) (q : ℕ) → getD s q 0 < 256 → field s (8 * q) 8 ≡ getD s q 0
+byte-field s q h =
+    let e : 8 * q ≡ 8 * q + 0 = omega arith in
+    rw (e, low-field s q 0 8) (omega arith)
+
+-- one byte more
+pub more : (s : List ℕ) (q n : ℕ) → getD s (q + n) 0 < 256 → field s (8 * q) (8 * (n + 1)) ≡ field s (8 * q) (8 * n) * 256 + getD s (q + n) 0
+more s q n h =
+    let e : 8 * q + 8 * n ≡ 8 * (q + n) = omega arith in
+    let d : 8 * (n + 1) ≡ 8 * n + 8 = omega arith in
+    rw (d, field-split s (8 * q) (8 * n) 8, e, byte-field s (q + n) h)
+
+pub below : (s : List ℕ) (q n : ℕ) → n < 8 → field s (8 * q) (8 * n) < 2 ^ 56
+below s q n h = lt-of-lt-of-le (field-lt s (8 * q) (8 * n)) (pow-mono {i = 8 * n} {j = 56} (omega arith))
+
+-- the n bytes from q on as one number, the first the most significant
+abbrev pub bytes : List ℕ → ℕ → ℕ → ℕ
+bytes s q zero = 0
+bytes s q (suc n) = bytes s q n * 256 + getD s (q + n) 0
+
+pub bytes-field : (s : List ℕ) → ((k : ℕ) → getD s k 0 < 256) → (q n : ℕ) → field s (8 * q) (8 * n) ≡ bytes s q n
+unfolding field
+bytes-field s h q zero = refl
+bytes-field s h q (suc n) = rw (← add-one n, more s q n (h (q + n)), bytes-field s h q n)
+
+-- eight bytes, written out
+pub word : (s : List ℕ) → ((k : ℕ) → getD s k 0 < 256) → (q : ℕ)
+    → ((((((getD s q 0 * 256 + getD s (q + 1) 0) * 256 + getD s (q + 2) 0) * 256 + getD s (q + 3) 0) * 256 + getD s (q + 4) 0) * 256 + getD s (q + 5) 0) * 256 + getD s (q + 6) 0) * 256 + getD s (q + 7) 0 ≡ field s (8 * q) 64
+word s h q = rw (bytes-field s h q 8, zero-add, add-zero)
+
+-- a field out of the 64 bits n from byte q on, of which a stand before it
+pub in-word : (s : List ℕ) (q n : ℕ) → n ≡ field s (8 * q) 64 → (a w p : ℕ) → a + w < 64 → 8 * q + a ≡ p → partOf n a w ≡ field s p w
+in-word s q n e a w p h d =
+    let f : 64 ≡ a + (w + (64 - a - w)) = omega arith in
+    rw (e, ← d, ← cut s (8 * q) a w (64 - a - w), ← f)
+
+-- one less than a power of two, as the machine has it, is positive and masks
+pub power : (w : ℕ) → w < 64 → 1 * 2 ^ w % 2 ^ 64 ≡ 2 ^ w
+power w h = rw one-mul (mod-eq-of-lt (pow-lt h))
+
+pub mask : (n w : ℕ) → w < 64 → bitAnd n (1 * 2 ^ w % 2 ^ 64 - 1) ≡ n % 2 ^ w
+mask n w h = rw power (and-mask n w)
+
+-- a part, as the machine takes it
+pub taken : (n a w : ℕ) → a + w < 64 → bitAnd (n / 2 / 2 ^ (63 - a - w)) (1 * 2 ^ w % 2 ^ 64 - 1) ≡ partOf n a w
+taken n a w h =
+    let e : 64 - a - w ≡ 1 + (63 - a - w) = omega arith in
+    rw (mask _ w (omega arith), shr-shr n 1 (63 - a - w), e)
+
+-- a byte put where there is none
+pub or-low : (n b : ℕ) → n % 256 ≡ 0 → b < 256 → bitOr n b ≡ n + b
+or-low n b e h =
+    let d : n / 256 * 256 ≡ n = omega arith in
+    rw d at (or-shifted (n / 256) 8 b h)

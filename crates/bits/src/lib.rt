@@ -1,0 +1,139 @@
+// Fields of a width at a bit position of a slice of bytes, most significant bit first, read by whole words.
+ghost use mathlib.Core.Path.{_≡_};
+ghost use Prim.Native.Nat.{_+_, _*_, _%_, _<_, _≤_, _^_};
+ghost use lib.ListN.{length, getD};
+ghost use Rattle.bits.specs.Bits.{field, partOf, widthRead};
+
+// The byte at i, and 0 past the end.
+fn byte_at(s: &[u8], i: usize) -> u8
+    ensures { λ r. ⌜ r ≡ getD (now (s .entry)) i 0 ⌝ }
+{
+    if i < s.len() { s[i] } else { 0 }
+}
+
+// A number whose low byte is 0, with b there. The compiler makes one load of eight bytes whose last one is put in by `|`, and not by `+`.
+fn with_low_byte(n: u64, b: u8) -> u64
+    requires { ⌜ n % 256 ≡ 0 ⌝ }
+    ensures { λ r. ⌜ r ≡ n + b ⌝ }
+{
+    n | b as u64
+}
+
+// Eight bytes as one number, the first the most significant.
+fn joined(a: u8, b: u8, c: u8, d: u8, e: u8, f: u8, g: u8, h: u8) -> u64
+    ensures { λ r. ⌜ r ≡ ((((((a * 256 + b) * 256 + c) * 256 + d) * 256 + e) * 256 + f) * 256 + g) * 256 + h ⌝ }
+{
+    with_low_byte(
+        a as u64 * 0x100_0000_0000_0000
+            + b as u64 * 0x1_0000_0000_0000
+            + c as u64 * 0x100_0000_0000
+            + d as u64 * 0x1_0000_0000
+            + e as u64 * 0x100_0000
+            + f as u64 * 0x1_0000
+            + g as u64 * 0x100,
+        h,
+    )
+}
+
+// The 64 bits from byte i on, all of them in the slice.
+fn word_within(s: &[u8], i: usize) -> u64
+    requires { ⌜ i + 8 ≤ length (now s) ⌝ }
+    ensures { λ r. ⌜ r ≡ field (now (s .entry)) (8 * i) 64 ⌝ }
+{
+    joined(
+        s[i],
+        s[i + 1],
+        s[i + 2],
+        s[i + 3],
+        s[i + 4],
+        s[i + 5],
+        s[i + 6],
+        s[i + 7],
+    )
+}
+
+// The 64 bits from byte i on, byte by byte.
+fn word_past_end(s: &[u8], i: usize) -> u64
+    requires { ⌜ i < 2 ^ 62 ⌝ }
+    ensures { λ r. ⌜ r ≡ field (now (s .entry)) (8 * i) 64 ⌝ }
+{
+    let mut n: u64 = 0;
+    let mut k: usize = 0;
+    while k < 8 {
+        n = n * 256 + byte_at(s, i + k) as u64;
+        k += 1;
+    }
+    n
+}
+
+// The 64 bits from byte i on, by one load where all eight bytes are there.
+fn word_at(s: &[u8], i: usize) -> u64
+    requires { ⌜ i < 2 ^ 62 ⌝ }
+    ensures { λ r. ⌜ r ≡ field (now (s .entry)) (8 * i) 64 ⌝ }
+{
+    if i + 8 <= s.len() {
+        word_within(s, i)
+    } else {
+        word_past_end(s, i)
+    }
+}
+
+// Of 64 bits, the w bits after the first a.
+fn part(n: u64, a: usize, w: usize) -> u64
+    requires { ⌜ a + w < 64 ⌝ }
+    ensures { λ r. ⌜ r ≡ partOf n a w ⌝ }
+{
+    ((n / 2) >> (63 - a - w)) & ((1u64 << w) - 1)
+}
+
+// The width that is read: at most 56 bits.
+fn width_read(width: usize) -> usize
+    ensures { λ r. ⌜ r ≡ widthRead width ⌝ }
+{
+    if width < 56 { width } else { 56 }
+}
+
+// The field of `width` bits from bit `at` on, for every slice, position and width: bytes past the end count as 0, a width above 56 as 56.
+pub fn field_at(s: &[u8], at: usize, width: usize) -> u64
+    ensures { λ r. ⌜ r ≡ field (now (s .entry)) at (widthRead width) ⌝ }
+{
+    part(word_at(s, at / 8), at % 8, width_read(width))
+}
+
+// A lent slice and a position in it, in bits.
+pub struct BitReader<'a> {
+    pub src: &'a [u8],
+    pub at: usize,
+}
+
+// A reader at bit `at`.
+pub fn reader_at<'a>(src: &'a [u8], at: usize) -> BitReader<'a>
+    ensures { λ r. ⌜ (r .src ≡ src .entry) × (r .at ≡ at) ⌝ }
+{
+    BitReader { src, at }
+}
+
+// The field of the next `width` bits.
+pub fn take<'a>(r: BitReader<'a>, width: usize) -> u64
+    ensures { λ n. ⌜ n ≡ field (now (r .entry .src)) (r .entry .at) (widthRead width) ⌝ }
+{
+    field_at(r.src, r.at, width)
+}
+
+// The reader moved on by `width` bits, where that position is a usize.
+pub fn past<'a>(r: BitReader<'a>, width: usize) -> BitReader<'a>
+    requires { ⌜ r .at + width < 2 ^ 64 ⌝ }
+    ensures { λ q. ⌜ (q .src ≡ r .entry .src) × (q .at ≡ r .entry .at + width) ⌝ }
+{
+    BitReader {
+        src: r.src,
+        at: r.at + width,
+    }
+}
+
+// A field read through a reader. Its parameters are plain: every crate above reads logs by it.
+pub fn read_field(log: &[u8], at: usize, width: usize) -> u64
+    ensures { λ r. ⌜ r ≡ field (now (log .entry)) at (widthRead width) ⌝ }
+{
+    take(reader_at(log, at), width)
+}
