@@ -1,13 +1,14 @@
 -- The laws of `field`: it fits its width, it splits anywhere, and a byte is the field of 8 bits at it. So the number of the bytes that cover a field
 -- gives the field, by a quotient and a remainder.
 -- Assumes nothing.
-use mathlib.Core.Path.{_≡_, refl}
+use mathlib.Core.Path.{_≡_, refl, sym, _∙_}
 use mathlib.Core.List.{List}
 use Prim.Native.Nat.{ℕ, zero, suc, _+_, _-_, _*_, _/_, _%_, _^_, _≤_, _<_}
 use native.Mathlib.Nat.{add-zero, zero-add, add-assoc, suc-add, mod-eq-of-lt, pow-suc, mul-assoc, mul-comm, one-mul, add-mul, lt-of-lt-of-le}
 use native.Mathlib.Numerals.{add-one, one-add}
 use native.Mathlib.Omega.{arith}
-use lib.ListN.{getD}
+use lib.ListN.{getD, take, drop}
+use lib.Seq.{getD-take, getD-drop}
 use lib.Arith.{digits-lt}
 use lib.Bits.{bitAnd, bitOr, and-mask, or-shifted}
 use lib.Pow.{pow-lt, pow-mono, pow-add, mod-pow-add, shr-shr, high, low}
@@ -60,6 +61,32 @@ field-split s i u v = simp field-number (number-split (bit s) i u v)
 
 pub cut : (s : List ℕ) (i u w c : ℕ) → field s i (u + (w + c)) / 2 ^ c % 2 ^ w ≡ field s (i + u) w
 cut s i u w c = simp field-number (number-cut (bit s) (bit-lt s) i u w c)
+
+-- the last w bits
+pub tail : (s : List ℕ) (i u w : ℕ) → field s i (u + w) % 2 ^ w ≡ field s (i + u) w
+tail s i u w = rw (field-split s i u w) (low _ w (field-lt s (i + u) w))
+
+-- equal bits make equal fields
+pub field-same : (s t : List ℕ) (i w : ℕ) → ((j : ℕ) → i ≤ j → j < i + w → bit s j ≡ bit t j) → field s i w ≡ field t i w
+field-same s t i w h = field-number s i w ∙ number-same (bit s) (bit t) i w h ∙ sym (field-number t i w)
+
+-- a field of what is left behind q bytes
+bit-drop : (s : List ℕ) (q i : ℕ) → bit (drop q s) i ≡ bit s (8 * q + i)
+unfolding bit
+bit-drop s q i =
+    let d : (8 * q + i) / 8 ≡ q + i / 8 = omega arith in
+    let m : (8 * q + i) % 8 ≡ i % 8 = omega arith in
+    rw (getD-drop q s (i / 8) 0, d, m)
+
+pub field-drop : (s : List ℕ) (q i w : ℕ) → field (drop q s) i w ≡ field s (8 * q + i) w
+unfolding field
+field-drop s q i zero = refl
+field-drop s q i (suc w) = rw (bit-drop s q i, field-drop s q (i + 1) w, add-assoc (8 * q) i 1)
+
+-- a field within the first n bytes
+pub field-take : (s : List ℕ) (n i w : ℕ) → i + w ≤ 8 * n → field (take n s) i w ≡ field s i w
+unfolding bit
+field-take s n i w h = field-same (take n s) s i w (λ j l m. rw (getD-take n s (j / 8) 0 (omega arith)))
 
 -- the w low bits of a byte are a field
 pub low-field : (s : List ℕ) (q j w : ℕ) → j + w ≡ 8 → field s (8 * q + j) w ≡ getD s q 0 % 2 ^ w

@@ -1,0 +1,19 @@
+-- `records::unit_record` meets its contract: what is left behind the header and the records before it begins with the record.
+-- Assumes nothing.
+use borrow.Author.Needs.{needs}
+use mathlib.Core.Path.{_∙_}
+use Prim.Native.Nat.{_*_}
+use native.Mathlib.Omega.{arith}
+use Rattle.records.specs.Fields.{unitFrom}
+use Rattle.records.proofs.Places.{unit-drop, Behind, further, found}
+use Rattle.records.proofs.unit_record.Statement.{statement}
+use Rattle.records.proofs.unit_record.Tie as tie
+
+returns : tie.Need-returns
+returns c =
+    let a = c .before .before .before .before .before .before .args in
+    let header : Behind (a .log .now) 10 _ = record { left = c .before .before .before .before .behind .ensures } in
+    c .front-unit .ensures ∙ found unitFrom unit-drop (further (further (further header (a .h .states * 6) (c .before .before .before .behind2 .ensures)) (a .h .standards * 9) (c .before .before .behind3 .ensures)) (a .i * 11) (c .before .behind4 .ensures)) (omega arith)
+
+pub unit-record-spec : {M : Type 1} → statement M
+unit-record-spec = tie.close (tie.spec (λ c κs. search needs) (λ c κs. search needs) (λ c κs. search needs) (λ c κs. search needs) (λ c κs. search needs) returns)

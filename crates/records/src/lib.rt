@@ -1,0 +1,139 @@
+// The header and the three kinds of record of a log, each read by its index, for every slice and every index: a byte past the end counts as 0.
+ghost use mathlib.Core.Path.{_≡_};
+ghost use Prim.Native.Nat.{_*_, _<_};
+ghost use lib.ListN.{drop};
+ghost use Rattle.records.specs.Fields.{headerFrom, stateFrom, standardFrom, unitFrom};
+ghost use Rattle.records.specs.Log.{headerOf, stateAt, standardAt, unitAt};
+
+// The period in ms, the number of modules, and how many records each list has.
+pub struct Header {
+    pub period: u64,
+    pub modules: usize,
+    pub states: usize,
+    pub standards: usize,
+    pub units: usize,
+}
+
+// From this time on the module is in the sub-state of this code.
+pub struct StateRecord {
+    pub module: usize,
+    pub code: usize,
+    pub time: u64,
+    pub spare: u64,
+}
+
+// A theoretical time per unit in ms, for a recipe, from a start on.
+pub struct Standard {
+    pub recipe: usize,
+    pub start: u64,
+    pub theoretical: u64,
+}
+
+// Units that a module made by a recipe, reported at a time.
+pub struct UnitRecord {
+    pub module: usize,
+    pub recipe: usize,
+    pub time: u64,
+    pub actual: u64,
+    pub effective: u64,
+    pub spare: u64,
+}
+
+// What is left of a slice behind `count` pieces of `size` bytes: nothing where it has fewer.
+fn behind(s: &[u8], count: usize, size: usize) -> &[u8]
+    requires { ⌜ 0 < size ⌝ }
+    ensures { λ r. ⌜ now r ≡ drop (count * size) (now (s .entry)) ⌝ }
+{
+    if count <= s.len() / size {
+        let at = count * size;
+        &s[at..]
+    } else {
+        let end = s.len();
+        &s[end..]
+    }
+}
+
+// The header at the front of a slice.
+pub fn read_header(log: &[u8]) -> Header
+    ensures { λ r. ⌜ r ≡ headerOf (now (log .entry)) ⌝ }
+{
+    let first = bits::read_field(log, 0, 56);
+    let second = bits::read_field(log, 56, 24);
+    Header {
+        period: first / 0x20_0000 % 0x8_0000_0000,
+        modules: (first / 0x4000 % 0x80) as usize,
+        states: (first % 0x4000) as usize,
+        standards: (second / 0x2000 % 0x800) as usize,
+        units: (second % 0x2000) as usize,
+    }
+}
+
+// The state record at the front of a slice.
+fn front_state(s: &[u8]) -> StateRecord
+    ensures { λ r. ⌜ r ≡ stateFrom (now (s .entry)) 0 ⌝ }
+{
+    let word = bits::read_field(s, 0, 48);
+    StateRecord {
+        module: (word / 0x400_0000_0000 % 0x40) as usize,
+        code: (word / 0x20_0000_0000 % 0x20) as usize,
+        time: word / 4 % 0x8_0000_0000,
+        spare: word % 4,
+    }
+}
+
+// The standard at the front of a slice.
+fn front_standard(s: &[u8]) -> Standard
+    ensures { λ r. ⌜ r ≡ standardFrom (now (s .entry)) 0 ⌝ }
+{
+    let first = bits::read_field(s, 0, 45);
+    let second = bits::read_field(s, 45, 27);
+    Standard {
+        recipe: (first / 0x8_0000_0000 % 0x400) as usize,
+        start: first % 0x8_0000_0000,
+        theoretical: second,
+    }
+}
+
+// The unit record at the front of a slice.
+fn front_unit(s: &[u8]) -> UnitRecord
+    ensures { λ r. ⌜ r ≡ unitFrom (now (s .entry)) 0 ⌝ }
+{
+    let first = bits::read_field(s, 0, 51);
+    let second = bits::read_field(s, 51, 37);
+    UnitRecord {
+        module: (first / 0x2000_0000_0000 % 0x40) as usize,
+        recipe: (first / 0x8_0000_0000 % 0x400) as usize,
+        time: first % 0x8_0000_0000,
+        actual: second / 0x20_0000 % 0x1_0000,
+        effective: second / 0x20 % 0x1_0000,
+        spare: second % 0x20,
+    }
+}
+
+// State record i.
+pub fn state_record(log: &[u8], i: usize) -> StateRecord
+    ensures { λ r. ⌜ r ≡ stateAt (now (log .entry)) i ⌝ }
+{
+    front_state(behind(behind(log, 10, 1), i, 6))
+}
+
+// Standard i of a log with this header.
+pub fn standard_record(log: &[u8], h: Header, i: usize) -> Standard
+    ensures { λ r. ⌜ r ≡ standardAt (now (log .entry)) h i ⌝ }
+{
+    let states = h.states;
+    front_standard(behind(behind(behind(log, 10, 1), states, 6), i, 9))
+}
+
+// Unit record i of a log with this header.
+pub fn unit_record(log: &[u8], h: Header, i: usize) -> UnitRecord
+    ensures { λ r. ⌜ r ≡ unitAt (now (log .entry)) h i ⌝ }
+{
+    let states = h.states;
+    let standards = h.standards;
+    front_unit(behind(
+        behind(behind(behind(log, 10, 1), states, 6), standards, 9),
+        i,
+        11,
+    ))
+}
