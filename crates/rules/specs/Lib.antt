@@ -1,0 +1,4 @@
+pub mod Grounds
+pub mod Time
+pub mod Theoretical
+pub mod RecordGrounds

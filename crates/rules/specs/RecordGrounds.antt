@@ -1,0 +1,95 @@
+-- When a log is turned back for its records: grounds 6 to 15, in their sequence.
+-- Definitions only.
+use Prim.Native.Nat.{ℕ}
+use mathlib.Core.List.{List, [], _∷_, foldl}
+use mathlib.Core.Bool.{Bool, true, false, _&&_, _||_, not, cond}
+use mathlib.Core.Option.{Option, none, some}
+use lib.Dec.{leb, ltb, eqb}
+use Rattle.records.specs.declared.StateRecord.{StateRecord}
+use Rattle.records.specs.declared.Standard.{Standard}
+use Rattle.records.specs.declared.UnitRecord.{UnitRecord}
+use Rattle.rules.specs.declared.Verdict.{Verdict}
+use Rattle.rules.specs.Grounds.{ground, _then_, firstOf, eachOf, inTurn}
+use Rattle.rules.specs.Theoretical.{inForce}
+
+-- ---- the state records
+
+-- the time of the last record, and of module m's last record
+unfoldable pub lastTime : List StateRecord → Option ℕ
+lastTime rs = foldl (λ t r. some (r .time)) none rs
+
+unfoldable pub ownTime : ℕ → List StateRecord → Option ℕ
+ownTime m rs = foldl (λ t r. cond (eqb (r .«module») m) (some (r .time)) t) none rs
+
+-- t is before a time, or at it or before, where there is one
+abbrev pub isBefore : ℕ → Option ℕ → Bool
+isBefore t none = false
+isBefore t (some u) = ltb t u
+
+abbrev pub isNotAfter : ℕ → Option ℕ → Bool
+isNotAfter t none = false
+isNotAfter t (some u) = leb t u
+
+unfoldable pub stateGround : ℕ → ℕ → List StateRecord → ℕ → StateRecord → Verdict
+unfolding lastTime ownTime
+stateGround period modules earlier i r =
+    ground 6 1 i (not (eqb (r .spare) 0))
+    then ground 7 1 i (leb modules (r .«module»))
+    then ground 8 1 i (ltb 23 (r .code))
+    then ground 9 1 i (leb period (r .time))
+    then ground 10 1 i (isBefore (r .time) (lastTime earlier) || isNotAfter (r .time) (ownTime (r .«module») earlier))
+
+-- the time of module m's first record
+unfoldable pub firstTime : ℕ → List StateRecord → Option ℕ
+firstTime m [] = none
+firstTime m (r ∷ rs) = cond (eqb (r .«module») m) (some (r .time)) (firstTime m rs)
+
+abbrev pub isOpening : Option ℕ → Bool
+isOpening none = false
+isOpening (some t) = eqb t 0
+
+-- no opening: module m's first record is not at time 0, or it has none
+unfoldable pub openingGround : List StateRecord → ℕ → Verdict
+unfolding firstTime
+openingGround rs m = ground 11 0 m (not (isOpening (firstTime m rs)))
+
+-- the state records one by one, then the modules, the lowest first
+unfoldable pub stateGrounds : ℕ → ℕ → List StateRecord → Verdict
+unfolding stateGround openingGround firstOf inTurn
+stateGrounds period modules rs = eachOf (stateGround period modules) rs then firstOf (openingGround rs) modules
+
+-- ---- the standards
+
+-- a standard of the list has this recipe and this start
+abbrev pub isAmong : Standard → List Standard → Bool
+isAmong s [] = false
+isAmong s (e ∷ es) = (eqb (s .recipe) (e .recipe) && eqb (s .start) (e .start)) || isAmong s es
+
+unfoldable pub standardGround : ℕ → List Standard → ℕ → Standard → Verdict
+standardGround period earlier i s =
+    ground 9 2 i (leb period (s .start))
+    then ground 12 2 i (eqb (s .theoretical) 0)
+    then ground 13 2 i (isAmong s earlier)
+
+unfoldable pub standardGrounds : ℕ → List Standard → Verdict
+unfolding standardGround inTurn
+standardGrounds period ss = eachOf (standardGround period) ss
+
+-- ---- the unit records
+
+abbrev pub isNone : Option Standard → Bool
+isNone none = true
+isNone (some s) = false
+
+unfoldable pub unitGround : ℕ → ℕ → List Standard → List UnitRecord → ℕ → UnitRecord → Verdict
+unfolding inForce
+unitGround period modules ss earlier i u =
+    ground 6 3 i (not (eqb (u .spare) 0))
+    then ground 7 3 i (leb modules (u .«module»))
+    then ground 9 3 i (leb period (u .time))
+    then ground 14 3 i (ltb (u .actual) (u .effective))
+    then ground 15 3 i (isNone (inForce ss (u .recipe) (u .time)))
+
+unfoldable pub unitGrounds : ℕ → ℕ → List Standard → List UnitRecord → Verdict
+unfolding unitGround inTurn
+unitGrounds period modules ss us = eachOf (unitGround period modules ss) us

@@ -1,0 +1,37 @@
+-- The standard in force, and the theoretical time of the units that a module made.
+-- Definitions only.
+use Prim.Native.Nat.{ℕ, _+_, _*_}
+use mathlib.Core.List.{List, [], _∷_, foldl}
+use mathlib.Core.Bool.{Bool, true, false, _&&_, cond}
+use mathlib.Core.Option.{Option, none, some}
+use lib.Dec.{leb, eqb}
+use Rattle.records.specs.declared.Standard.{Standard}
+use Rattle.records.specs.declared.UnitRecord.{UnitRecord}
+
+-- of the standard found so far and another, the one with the later start
+abbrev pub later : Option Standard → Standard → Option Standard
+later none s = some s
+later (some b) s = cond (leb (s .start) (b .start)) (some b) (some s)
+
+-- after one more standard: it counts where it is the recipe's and starts at or before the time
+abbrev pub consider : ℕ → ℕ → Option Standard → Standard → Option Standard
+consider recipe time found s = cond (eqb (s .recipe) recipe && leb (s .start) time) (later found s) found
+
+-- the standard in force: the recipe's with the latest start at or before the time
+unfoldable pub inForce : List Standard → ℕ → ℕ → Option Standard
+inForce ss recipe time = foldl (consider recipe time) none ss
+
+abbrev pub timeOf : Option Standard → ℕ
+timeOf none = 0
+timeOf (some s) = s .theoretical
+
+-- units times the theoretical time in force at the record's time, where the record is module m's
+unfoldable pub credit : (UnitRecord → ℕ) → List Standard → ℕ → UnitRecord → ℕ
+unfolding inForce
+credit units ss m u = cond (eqb (u .«module») m) (units u * timeOf (inForce ss (u .recipe) (u .time))) 0
+
+-- the theoretical time for the units that module m made: its credits, summed over its unit records
+unfoldable pub theoreticalTime : (UnitRecord → ℕ) → List Standard → List UnitRecord → ℕ → ℕ
+unfolding credit
+theoreticalTime units ss [] m = 0
+theoreticalTime units ss (u ∷ us) m = credit units ss m u + theoreticalTime units ss us m
