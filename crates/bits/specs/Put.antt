@@ -1,10 +1,10 @@
--- A list of bytes with the bits of a field replaced.
+-- A list of bytes with the bits of a field replaced, and bytes made of fields side by side.
 -- Definitions only.
-use Prim.Native.Nat.{ℕ, zero, suc, _+_, _-_, _*_, _/_, _%_, _^_}
+use Prim.Native.Nat.{ℕ, zero, suc, _+_, _-_, _*_, _/_, _%_, _^_, _<_}
 use mathlib.Core.Bool.{cond}
 use mathlib.Core.List.{List, [], _∷_}
 use lib.Dec.{ltb}
-use lib.ListN.{length}
+use lib.ListN.{length, replicate}
 use Rattle.bits.specs.Bits.{bit}
 
 -- the number whose binary digits are f i, f (i + 1), .. , f (i + w - 1)
@@ -24,3 +24,24 @@ putBit s i w v j = cond (ltb j i) (bit s j) (cond (ltb j (i + w)) (v / 2 ^ (i + 
 -- the list with the field of w bits from bit i on made v
 unfoldable pub putField : List ℕ → ℕ → ℕ → ℕ → List ℕ
 putField s i w v = bytesOf (putBit s i w v) 0 (length s)
+
+-- a number to put, and the width of its field
+pub record Slot : Type 0 where
+  pub width : ℕ
+  pub value : ℕ
+
+-- the list with fields put side by side from bit i on
+unfoldable pub putFields : List ℕ → ℕ → List Slot → List ℕ
+unfolding putField
+putFields s i [] = s
+putFields s i (f ∷ fs) = putFields (putField s i (f .width) (f .value)) (i + f .width) fs
+
+-- n bytes made of fields side by side, with zeros behind them
+unfoldable pub packed : ℕ → List Slot → List ℕ
+unfolding putFields
+packed n fs = putFields (replicate n 0) 0 fs
+
+-- each number fits its field
+abbrev pub Fit : List Slot → Type 0
+Fit [] = Unit {0}
+Fit (f ∷ fs) = (f .value < 2 ^ f .width) × Fit fs

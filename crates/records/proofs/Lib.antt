@@ -1,2 +1,4 @@
 pub mod Places
 pub mod UpTo
+pub mod RecordKinds
+pub mod RoundTrip

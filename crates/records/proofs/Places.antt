@@ -8,7 +8,11 @@ use native.Mathlib.Omega.{arith}
 use lib.ListN.{drop}
 use lib.Seq.{drop-drop}
 use Rattle.bits.proofs.Fields.{field-drop}
-use Rattle.records.specs.Fields.{stateFrom, standardFrom, unitFrom}
+use Rattle.records.specs.Fields.{headerFrom, stateFrom, standardFrom, unitFrom}
+
+pub header-drop : (s : List ℕ) (q : ℕ) → headerFrom (drop q s) 0 ≡ headerFrom s (8 * q)
+unfolding headerFrom
+header-drop s q = simp (field-drop, add-zero)
 
 pub state-drop : (s : List ℕ) (q : ℕ) → stateFrom (drop q s) 0 ≡ stateFrom s (8 * q)
 unfolding stateFrom
