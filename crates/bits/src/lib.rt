@@ -11,7 +11,7 @@ fn byte_at(s: &[u8], i: usize) -> u8
     if i < s.len() { s[i] } else { 0 }
 }
 
-// A number whose low byte is 0, with b there. The compiler makes one load of eight bytes whose last one is put in by `|`, and not by `+`.
+// A number whose low byte is 0, with b there. The compiler makes one load of bytes that are put together by `|`, and not by `+`.
 fn with_low_byte(n: u64, b: u8) -> u64
     requires { ⌜ n % 256 ≡ 0 ⌝ }
     ensures { λ r. ⌜ r ≡ n + b ⌝ }
@@ -19,20 +19,21 @@ fn with_low_byte(n: u64, b: u8) -> u64
     n | b as u64
 }
 
+// Four bytes as one number, the first the most significant.
+fn half(a: u8, b: u8, c: u8, d: u8) -> u64
+    ensures { λ r. ⌜ r ≡ ((a * 256 + b) * 256 + c) * 256 + d ⌝ }
+{
+    with_low_byte(
+        a as u64 * 0x100_0000 + b as u64 * 0x1_0000 + c as u64 * 0x100,
+        d,
+    )
+}
+
 // Eight bytes as one number, the first the most significant.
 fn joined(a: u8, b: u8, c: u8, d: u8, e: u8, f: u8, g: u8, h: u8) -> u64
     ensures { λ r. ⌜ r ≡ ((((((a * 256 + b) * 256 + c) * 256 + d) * 256 + e) * 256 + f) * 256 + g) * 256 + h ⌝ }
 {
-    with_low_byte(
-        a as u64 * 0x100_0000_0000_0000
-            + b as u64 * 0x1_0000_0000_0000
-            + c as u64 * 0x100_0000_0000
-            + d as u64 * 0x1_0000_0000
-            + e as u64 * 0x100_0000
-            + f as u64 * 0x1_0000
-            + g as u64 * 0x100,
-        h,
-    )
+    half(a, b, c, d) * 0x1_0000_0000 + half(e, f, g, h)
 }
 
 // The 64 bits from byte i on, all of them in the slice.
