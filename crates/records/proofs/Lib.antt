@@ -1,4 +1,5 @@
 pub mod Places
 pub mod UpTo
+pub mod Widths
 pub mod RecordKinds
 pub mod RoundTrip

@@ -20,9 +20,6 @@ use Rattle.records.proofs.RecordKinds.{Kind, placed, rewritten, header-
 -- ---- the bytes of a list of records
 
 module _ {A : Type 0} (size : ℕ) (slots : A → List Slot) where
-  bytes : A → List ℕ
-  bytes r = packed size (slots r)
-
   pub length-joined : (rs : List A) → length (joined (λ r. packed size (slots r)) rs) ≡ size * length rs
   unfolding joined
   length-joined [] = sym (mul-zero size)

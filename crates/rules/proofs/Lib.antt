@@ -1,1 +1,2 @@
 pub mod FirstGround
+pub mod InForce

@@ -1,0 +1,37 @@
+-- What the working arrays hold of the first n standards: starts S, theoretical times T, for each standard the link B to the one of its recipe before it, and
+-- for each recipe the link L to its last one.
+-- Definitions only.
+use mathlib.Core.Path.{_≡_}
+use mathlib.Core.List.{List}
+use mathlib.Core.Bool.{Bool, true}
+use Prim.Native.Nat.{ℕ, _+_, _≤_, _<_}
+use lib.ListN.{length, getD}
+use Rattle.records.specs.declared.Standard.{Standard}
+use Rattle.records.specs.Log.{upTo}
+use Rattle.rules.specs.declared.Verdict.{Verdict}
+use Rattle.rules.specs.declared.Verdict.the-variants.{Accepted}
+use Rattle.rules.specs.RecordGrounds.{standardGround, standardGrounds}
+use Rattle.theoretical.specs.declared.Listed.{Listed}
+use Rattle.theoretical.specs.Chains.{lastOf, Rising}
+
+-- the chain of each recipe
+pub record Chained (at : ℕ → Standard) (n : ℕ) (S B : List ℕ) : Type 0 where
+  pub few : n ≤ 512
+  pub starts : (i : ℕ) → i < n → getD S i 0 ≡ at i .start
+  pub links : (i : ℕ) → i < n → getD B i 0 ≡ lastOf at (at i .recipe) i
+
+pub record Listing (at : ℕ → Standard) (n : ℕ) (S T B L : List ℕ) : Type 0 where
+  pub chained : Chained at n S B
+  pub times : (i : ℕ) → i < n → getD T i 0 ≡ at i .theoretical
+  pub lasts : (recipe : ℕ) → recipe < 1024 → getD L recipe 0 ≡ lastOf at recipe n
+
+-- standard i tested; whether the starts rise is told where it passes
+pub record Tested (period : ℕ) (at : ℕ → Standard) (i : ℕ) (r : Listed) : Type 0 where
+  pub answer : r .verdict ≡ standardGround period (upTo at i) i (at i)
+  pub rising : r .verdict ≡ Accepted → r .rising ≡ true → Rising at (i + 1)
+
+-- all n standards tested and listed
+pub record AllListed (period : ℕ) (at : ℕ → Standard) (n : ℕ) (r : Listed) (S T B L : List ℕ) : Type 0 where
+  pub answer : r .verdict ≡ standardGrounds period (upTo at n)
+  pub rising : r .verdict ≡ Accepted → r .rising ≡ true → Rising at n
+  pub listing : r .verdict ≡ Accepted → Listing at n S T B L

@@ -1,0 +1,122 @@
+// Credits each unit with the theoretical time in force when it was made: the standards are tested and listed once, then the unit records are tested and summed.
+ghost use mathlib.Core.Path.{_≡_};
+ghost use mathlib.Core.Bool.{true};
+ghost use Prim.Native.Nat.{pred, _+_, _<_, _≤_};
+ghost use lib.ListN.{getD, replicate};
+ghost use Rattle.records.specs.Log.{upTo, standardAt, unitAt};
+ghost use Rattle.rules.specs.Theoretical.{inForce};
+ghost use Rattle.rules.specs.RecordGrounds.{isAmong, standardGround, unitGround};
+ghost use Rattle.theoretical.specs.Chains.{lastOf, linked, laterOf, Rising, Leads, lookupOf};
+ghost use Rattle.theoretical.specs.Listing.{Chained, Listing, Tested, AllListed};
+ghost use Rattle.theoretical.specs.Credits.{Credited, Units};
+use records::Header;
+use records::Standard;
+use records::UnitRecord;
+use rules::Refusal;
+use rules::Verdict;
+
+// What looking up a standard answers: the standard in force, or none.
+pub enum Lookup {
+    Found(Standard),
+    Nothing,
+}
+
+// The answer to the standards tested so far, and whether the starts of each recipe rise in list sequence.
+pub struct Listed {
+    pub verdict: Verdict,
+    pub rising: bool,
+}
+
+fn refused(number: usize, list: usize, place: usize) -> Verdict
+    ensures { λ r. ⌜ r ≡ Verdict.Refused (record { number = number; list = list; place = place }) ⌝ }
+{
+    Verdict::Refused(Refusal {
+        number,
+        list,
+        place,
+    })
+}
+
+// The start of the standard that a link leads to.
+fn start_of(log: &[u8], h: Header, n: usize, starts: &[u64; 512], links: &[usize; 512], link: usize) -> u64
+    requires { ⌜ Chained (standardAt (now log) h) n (now starts) (now links) ⌝ }
+    requires { ⌜ (0 < link) × (link ≤ n) ⌝ }
+    ensures { λ r. ⌜ r ≡ standardAt (now (log .entry)) h (pred link) .start ⌝ }
+{
+    starts[link - 1]
+}
+
+// The link to the standard of the same recipe before it.
+fn link_before(log: &[u8], h: Header, n: usize, starts: &[u64; 512], links: &[usize; 512], link: usize) -> usize
+    requires { ⌜ Chained (standardAt (now log) h) n (now starts) (now links) ⌝ }
+    requires { ⌜ (0 < link) × (link ≤ n) ⌝ }
+    ensures { λ r. ⌜ r ≡ lastOf (standardAt (now (log .entry)) h) (standardAt (now (log .entry)) h (pred link) .recipe) (pred link) ⌝ }
+{
+    links[link - 1]
+}
+
+// Whether one of the first n standards has this recipe and this start: a walk along the recipe's chain.
+fn is_listed(log: &[u8], h: Header, n: usize, starts: &[u64; 512], links: &[usize; 512], from: usize, s: Standard) -> bool
+    requires { ⌜ Chained (standardAt (now log) h) n (now starts) (now links) ⌝ }
+    requires { ⌜ from ≡ lastOf (standardAt (now log) h) (s .recipe) n ⌝ }
+    ensures { λ r. ⌜ r ≡ isAmong s (upTo (standardAt (now (log .entry)) h) n) ⌝ }
+{
+    let mut link = from;
+    while link != 0 {
+        if start_of(log, h, n, starts, links, link) == s.start {
+            return true;
+        }
+        link = link_before(log, h, n, starts, links, link);
+    }
+    false
+}
+
+// The link to the standard in force where the starts rise: the first on the chain that has begun.
+fn newest(log: &[u8], h: Header, n: usize, starts: &[u64; 512], links: &[usize; 512], from: usize, recipe: usize, time: u64) -> usize
+    requires { ⌜ Chained (standardAt (now log) h) n (now starts) (now links) ⌝ }
+    requires { ⌜ from ≡ lastOf (standardAt (now log) h) recipe n ⌝ }
+    requires { ⌜ Rising (standardAt (now log) h) n ⌝ }
+    ensures { λ r. ⌜ Leads (standardAt (now (log .entry)) h) n recipe time r ⌝ }
+{
+    let mut link = from;
+    while link != 0 {
+        if start_of(log, h, n, starts, links, link) <= time {
+            return link;
+        }
+        link = link_before(log, h, n, starts, links, link);
+    }
+    0
+}
+
+// Of the best link so far and one before it, the one to the later start, and the one before where they are equal.
+fn better(log: &[u8], h: Header, n: usize, starts: &[u64; 512], links: &[usize; 512], best: usize, link: usize) -> usize
+    requires { ⌜ Chained (standardAt (now log) h) n (now starts) (now links) ⌝ }
+    requires { ⌜ (0 < link) × (link ≤ n) × (best ≤ n) ⌝ }
+    ensures { λ r. ⌜ (r ≤ n) × (linked (standardAt (now (log .entry)) h) r ≡ laterOf (linked (standardAt (now (log .entry)) h) link) (linked (standardAt (now (log .entry)) h) best)) ⌝ }
+{
+    if best == 0 {
+        return link;
+    }
+    let found = start_of(log, h, n, starts, links, best);
+    if found <= start_of(log, h, n, starts, links, link) {
+        return link;
+    }
+    best
+}
+
+// The link to the standard in force, in lists in any sequence: the whole chain is walked.
+fn latest(log: &[u8], h: Header, n: usize, starts: &[u64; 512], links: &[usize; 512], from: usize, recipe: usize, time: u64) -> usize
+    requires { ⌜ Chained (standardAt (now log) h) n (now starts) (now links) ⌝ }
+    requires { ⌜ from ≡ lastOf (standardAt (now log) h) recipe n ⌝ }
+    ensures { λ r. ⌜ Leads (standardAt (now (log .entry)) h) n recipe time r ⌝ }
+{
+    let mut best: usize = 0;
+    let mut link = from;
+    while link != 0 {
+        if start_of(log, h, n, starts, links, link) <= time {
+            best = better(log, h, n, starts, links, best, link);
+        }
+        link = link_before(log, h, n, starts, links, link);
+    }
+    best
+}
