@@ -75,38 +75,35 @@ pub fn printed_of_ordered(numerator: u64, denominator: u64) -> Printed
     }
 }
 
-// Ten thousand times the quotient to the nearest whole number, a half going up, in two steps of times 100: 10,000 times the numerator may not fit.
-fn rounded_of(numerator: u64, denominator: u64) -> u64
-    requires { ⌜ Portion numerator denominator ⌝ }
-    requires { ⌜ 0 < denominator ⌝ }
-    ensures { λ r. ⌜ r ≡ roundedOf numerator denominator ⌝ }
+// Ten thousand times n / d to the nearest whole number, a half going up, in two steps of times 100: 10,000 n may not fit.
+fn rounded_of(n: u64, d: u64) -> u64
+    requires { ⌜ Portion n d ⌝ }
+    requires { ⌜ 0 < d ⌝ }
+    ensures { λ r. ⌜ r ≡ roundedOf n d ⌝ }
 {
-    let hundredfold = numerator * 100;
-    let again = hundredfold % denominator * 100;
-    let whole = hundredfold / denominator * 100 + again / denominator;
-    if again % denominator * 2 < denominator {
-        whole
-    } else {
-        whole + 1
-    }
+    let first = n * 100;
+    let second = first % d * 100;
+    let whole = first / d * 100 + second / d;
+    let rest = second % d;
+    if rest * 2 < d { whole } else { whole + 1 }
 }
 
 // One division of two whole numbers, which are exact as doubles.
-fn quotient_of(numerator: u64, denominator: u64) -> f64
-    requires { ⌜ Portion numerator denominator ⌝ }
-    ensures { λ r. ⌜ r ≡ quotientOf numerator denominator ⌝ }
+fn quotient_of(n: u64, d: u64) -> f64
+    requires { ⌜ Portion n d ⌝ }
+    ensures { λ r. ⌜ r ≡ quotientOf n d ⌝ }
 {
-    numerator as f64 / denominator as f64
+    n as f64 / d as f64
 }
 
-fn efficiency_of(numerator: u64, denominator: u64) -> Efficiency
-    requires { ⌜ Portion numerator denominator ⌝ }
-    ensures { λ r. ⌜ r ≡ efficiencyOf numerator denominator ⌝ }
+fn efficiency_of(n: u64, d: u64) -> Efficiency
+    requires { ⌜ Portion n d ⌝ }
+    ensures { λ r. ⌜ r ≡ efficiencyOf n d ⌝ }
 {
-    if denominator == 0 {
+    if d == 0 {
         Efficiency::NoBase
     } else {
-        Efficiency::Ratio(quotient_of(numerator, denominator))
+        Efficiency::Ratio(quotient_of(n, d))
     }
 }
 

@@ -14,10 +14,10 @@ unfolding inFloat
 exact n h = le→leb n (2 ^ 53) h
 
 int-to-float-result : tie.Need-int-to-float-result
-int-to-float-result c = exact (c .before .args .numerator) (omega arith)
+int-to-float-result c = exact (c .before .args .n) (omega arith)
 
 int-to-float-result-2 : tie.Need-int-to-float-result-2
-int-to-float-result-2 c = exact (c .before .before .args .denominator) (omega arith)
+int-to-float-result-2 c = exact (c .before .before .args .d) (omega arith)
 
 returns : tie.Need-returns
 unfolding quotientOf

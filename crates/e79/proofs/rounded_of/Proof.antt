@@ -16,22 +16,22 @@ record Steps (n d : ℕ) : Type 0 where
   second-quotient : n * 100 % d * 100 / d ≤ 100
   second-rest : n * 100 % d * 100 % d < d
 
-steps : (s : tie.Start) → Steps (s .args .numerator) (s .args .denominator)
+steps : (s : tie.Start) → Steps (s .args .n) (s .args .d)
 steps s =
-    let n = s .args .numerator in
-    let d = s .args .denominator in
+    let n = s .args .n in
+    let d = s .args .d in
     let a = step n d (s .pre .0 .part) (s .pre .1) in
     let b = step (n * 100 % d) d (le-of-lt (a .1)) (s .pre .1) in
     record { few = s .pre .0 .few; first-quotient = a .0; first-rest = a .1; second-quotient = b .0; second-rest = b .1 }
 
-mul-hundredfold : tie.Need-mul-hundredfold
-mul-hundredfold c = search needs
+mul-first : tie.Need-mul-first
+mul-first c = search needs
 
-rem-again : tie.Need-rem-again
-rem-again c = search needs
+rem-second : tie.Need-rem-second
+rem-second c = search needs
 
-mul-again : tie.Need-mul-again
-mul-again c = omega (arith, steps c)
+mul-second : tie.Need-mul-second
+mul-second c = omega (arith, steps c)
 
 div-whole : tie.Need-div-whole
 div-whole c = search needs
@@ -45,8 +45,8 @@ div-whole-2 c = search needs
 add-whole : tie.Need-add-whole
 add-whole c = omega (arith, steps c)
 
-rem-if1 : tie.Need-rem-if1
-rem-if1 c = search needs
+rem-rest : tie.Need-rem-rest
+rem-rest c = search needs
 
 mul-if1 : tie.Need-mul-if1
 mul-if1 c = omega (arith, steps c)
@@ -55,23 +55,23 @@ add-result : tie.Need-add-result
 add-result c = omega (arith, steps (c .before))
 
 returns : tie.Need-returns
-returns c = half-not-reached (c .before .args .numerator) (c .before .args .denominator) (c .if1 .taken)
+returns c = half-not-reached (c .before .args .n) (c .before .args .d) (c .if1 .taken)
 
 returns-2 : tie.Need-returns-2
-returns-2 c = half-reached (c .before .args .numerator) (c .before .args .denominator) (steps (c .before) .second-rest) (c .if1 .left)
+returns-2 c = half-reached (c .before .args .n) (c .before .args .d) (steps (c .before) .second-rest) (c .if1 .left)
 
 pub rounded-of-spec : {M : Type 1} → statement M
 rounded-of-spec =
     tie.close
     (tie.spec
-    mul-hundredfold
-    rem-again
-    mul-again
+    mul-first
+    rem-second
+    mul-second
     div-whole
     mul-whole
     div-whole-2
     add-whole
-    rem-if1
+    rem-rest
     mul-if1
     add-result
     returns
