@@ -1,13 +1,11 @@
 -- The printed figure, by its definition, is the nearest whole number, a half going up, and at most 10,000 (1.0000); and two steps of times 100 come to it. Assumes nothing.
-use mathlib.Core.Path.{_≡_, sym, ap}
+use mathlib.Core.Path.{_≡_, sym}
 use mathlib.Core.Logic.{inl, inr}
 use Prim.Native.Nat.{ℕ, zero, suc, _+_, _*_, _/_, _%_, _≤_, _<_}
-use native.Mathlib.Nat.{zero-lt-suc, mul-right-comm, mul-left-comm, mul-le-mul-right, add-mul, one-mul, suc-mul, mul-pos, mod-lt, div-add-mod', div-eq-of-lt-le, div-mul-le-self, lt-div-mul-add, div-lt-iff-lt-mul, div-le-of-le-mul}
+use native.Mathlib.Nat.{zero-lt-suc, mul-right-comm, mul-left-comm, mul-le-mul-right, add-mul, one-mul, suc-mul, mod-lt, div-add-mod', div-eq-of-lt-le, div-mul-le-self, lt-div-mul-add, div-lt-iff-lt-mul, div-le-of-le-mul}
 use native.Mathlib.Omega.{arith}
-use lib.Dec.{lit≤}
-use Rattle.e79.specs.declared.Printed.the-variants.{Figure, NoBase}
-use Rattle.e79.specs.Quantities.{Portion, based}
-use Rattle.e79.specs.Accuracy.{gap}
+use Rattle.e79.specs.declared.Printed.the-variants.{Figure}
+use Rattle.e79.specs.Quantities.{based}
 use Rattle.e79.specs.Printed.{roundedOf, printedOf, NearestWhole}
 use Rattle.e79.proofs.Units.{le-or-lt}
 

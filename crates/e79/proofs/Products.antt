@@ -1,6 +1,6 @@
 -- The product in turn has seven roundings behind it, so it is `Proper`. Where one of the four has no base, effective is 0, and so is the product. Assumes nothing.
 use mathlib.Core.Path.{_≡_, refl}
-use Prim.Native.Nat.{ℕ, zero, suc, _*_, _^_, _≤_, _<_}
+use Prim.Native.Nat.{ℕ, zero, suc, _*_, _≤_, _<_}
 use native.Mathlib.Nat.{zero-lt-suc, lt-irrefl, zero-mul, mul-assoc, mul-comm, mul-left-comm, mul-pos}
 use native.Mathlib.Omega.{arith}
 use lib.Ieee.{Float}

@@ -1,7 +1,7 @@
 -- The quotients and the products of the figures are as good as `specs/Accuracy.antt` says. Assumes nothing.
 use mathlib.Core.Path.{_≡_, refl, sym, _∙_, subst}
 use mathlib.Core.Bool.{true, false, true≢false}
-use Prim.Native.Nat.{ℕ, zero, suc, _*_, _^_, _≤_, _<_}
+use Prim.Native.Nat.{ℕ, zero, suc, _*_, _^_, _<_}
 use native.Mathlib.Nat.{le-trans, le-of-lt, mul-assoc, mul-comm, mul-left-comm, mul-pos, mul-one, zero-lt-suc}
 use lib.Dec.{T, eqb·suc-zero}
 use lib.Ieee.{Float, nan, inf, fin, Format, binary64, low, round, div, ofInt}

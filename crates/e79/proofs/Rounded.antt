@@ -18,13 +18,13 @@ use Rattle.e79.specs.Accuracy.{gap, off}
 use Rattle.e79.proofs.Units.{le-or-lt, kept-nearest, kept-relative}
 
 -- ---- a value of the format is m * 2 ^ j of the smallest values, with an m below 2 ^ prec
-pow-le-back : (a l : ℕ) → 2 ^ a ≤ 2 ^ l → a ≤ l
-pow-le-back a l h = elim (le-or-lt a l) [ inl k ↦ k | inr k ↦ absurd (lt-irrefl (2 ^ l) (lt-of-lt-of-le (pow-lt k) h)) ]
+exponents : {j k : ℕ} → 2 ^ j ≤ 2 ^ k → j ≤ k
+exponents {j} {k} h = elim (le-or-lt j k) [ inl l ↦ l | inr l ↦ absurd (lt-irrefl (2 ^ k) (lt-of-lt-of-le (pow-lt l) h)) ]
 
 exponent : (l : ℕ) (e : ℤ) → down e ≤ 2 ^ l → (j : ℕ) × (up e * 2 ^ l ≡ 2 ^ j * down e)
 exponent l (pos a) h = (a + l, sym (pow-add 2 a l) ∙ sym (mul-one (2 ^ (a + l))))
 exponent l (negsuc a) h =
-    (l - suc a, one-mul (2 ^ l) ∙ sym (ap (λ (x : ℕ). 2 ^ x) (back l (suc a) (pow-le-back (suc a) l h))) ∙ pow-add 2 (l - suc a) (suc a))
+    (l - suc a, one-mul (2 ^ l) ∙ sym (ap (λ (x : ℕ). 2 ^ x) (back l (suc a) (exponents h))) ∙ pow-add 2 (l - suc a) (suc a))
 
 abbrev OnGrid : Format → Float → Type 0
 OnGrid f y = (m : ℕ) × (j : ℕ) × (m < 2 ^ prec f) × (num y * 2 ^ low f ≡ m * 2 ^ j * den y)

@@ -7,8 +7,7 @@ use Prim.Native.Nat.{ℕ, zero, suc, _+_, _-_, _*_, _/_, _%_, _^_, _≤_, _<_, c
 use native.Mathlib.Nat.{le-trans, le-of-eq, le-of-lt, mul-assoc, mul-comm, mul-le-mul-right, mul-pos, add-zero, suc-mul, mod-lt, div-add-mod', div-div-eq-div-mul, le-div-iff-mul-le, zero-lt-suc}
 use native.Mathlib.Numerals.{add-one}
 use native.Mathlib.Omega.{arith}
-use lib.Arith.{lt-of-le-ne}
-use lib.Dec.{T, isLe, isEq, leb, eqb, leb→le, nleb→lt, eqb→eq, eqb-refl}
+use lib.Dec.{T, isLe, isEq, leb, leb→le, nleb→lt, eqb→eq}
 use lib.Pow.{pow-add, pow-pos, pow-mono}
 use lib.Ieee.{nearest, size}
 use lib.Ieee.Digits.{size-reaches, back}
@@ -23,36 +22,26 @@ le-or-lt a b = go (leb a b) (leb→le a b) (nleb→lt a b)
     go true h k = inl (h tt)
     go false h k = inr (k tt)
 
--- ---- what `compare` says
-abbrev Cmp : Ordering → ℕ → ℕ → Type 0
-Cmp Ordering·lt a b = a < b
-Cmp Ordering·eq a b = a ≡ b
-Cmp Ordering·gt a b = b < a
-
-cmp : (a b : ℕ) → Cmp (compare a b) a b
-cmp a b = go (compare a b) (leb→le a b) (nleb→lt a b) (eqb→eq a b) (λ (e : a ≡ b). subst (λ (x : ℕ). T (eqb a x)) e (eqb-refl a))
-  where
-    go : (o : Ordering) → (T (isLe o) → a ≤ b) → (T (not (isLe o)) → b < a) → (T (isEq o) → a ≡ b) → (a ≡ b → T (isEq o)) → Cmp o a b
-    go Ordering·lt h k e n = lt-of-le-ne (h tt) n
-    go Ordering·eq h k e n = e tt
-    go Ordering·gt h k e n = k tt
-
--- ---- with n = q * u + r, the multiple of u that `closest` picks is no farther from n than q * u, at r, and than q * u + u, at u - r
+-- ---- the multiple of u that `closest` picks for n = q * u + r is no farther from n than its neighbours q * u, at r, and q * u + u, at u - r
 abbrev Near : ℕ → ℕ → ℕ → ℕ → Type 0
 Near z n r u = (gap z n ≤ r) × (gap z n + r ≤ u)
 
-tie : (b q r u n : ℕ) → b < 2 → q * u + r ≡ n → r * 2 ≡ u → Near ((q + b) * u) n r u
-tie zero q r u n l e h = rw add-zero (omega arith)
-tie (suc zero) q r u n l e h = rw (add-one, suc-mul) (omega arith)
-tie (suc (suc b)) q r u n l e h = omega arith
+-- in the middle either neighbour will do
+middle : (b q r u n : ℕ) → b < 2 → q * u + r ≡ n → r * 2 ≡ u → Near ((q + b) * u) n r u
+middle zero q r u n l e h = rw add-zero (omega arith)
+middle (suc zero) q r u n l e h = rw (add-one, suc-mul) (omega arith)
+middle (suc (suc b)) q r u n l e h = omega arith
 
-picked : (q r u n : ℕ) (o : Ordering) → q * u + r ≡ n → r < u → Cmp o (r * 2) u → Near (nearest q o * u) n r u
-picked q r u n Ordering·lt e l h = omega arith
-picked q r u n Ordering·eq e l h = tie (q % 2) q r u n (mod-lt q (zero-lt-suc 1)) e h
-picked q r u n Ordering·gt e l h = rw suc-mul (omega arith)
+-- o is how r * 2 compares with u
+picked : (q r u n : ℕ) (o : Ordering) → q * u + r ≡ n → r < u → (T (isLe o) → r * 2 ≤ u) → (T (not (isLe o)) → u < r * 2) → (T (isEq o) → r * 2 ≡ u) → Near (nearest q o * u) n r u
+picked q r u n Ordering·lt e l low high same = let h : r * 2 ≤ u = low tt in omega arith
+picked q r u n Ordering·eq e l low high same = middle (q % 2) q r u n (mod-lt q (zero-lt-suc 1)) e (same tt)
+picked q r u n Ordering·gt e l low high same = let h : u < r * 2 = high tt in rw suc-mul (omega arith)
 
 closest-near : (n u : ℕ) → 0 < u → Near (closest n u * u) n (n % u) u
-closest-near n u U = picked (n / u) (n % u) u n (compare (n % u * 2) u) (div-add-mod' n u) (mod-lt n U) (cmp (n % u * 2) u)
+closest-near n u U =
+    let r = n % u in
+    picked (n / u) r u n (compare (r * 2) u) (div-add-mod' n u) (mod-lt n U) (leb→le (r * 2) u) (nleb→lt (r * 2) u) (eqb→eq (r * 2) u)
 
 -- ---- a value of the format, m * 2 ^ j units, does not lie strictly between two neighbours of the grid that `round` rounds to
 less-room : (p j k : ℕ) → 0 < p → j < k → p + j ≤ p - 1 + k

@@ -1,12 +1,7 @@
 -- `e79::figures_of_ordered` meets its contract: the parts are what the callees ensure, so the set is `figuresOf`, and `proofs/Products.antt` says what that is worth. Assumes nothing.
 use borrow.Author.Needs.{needs}
-use mathlib.Core.Path.{_≡_, sym, subst}
-use lib.Ieee.{Float}
-use Rattle.e79.specs.declared.Quantities.{Quantities}
-use Rattle.e79.specs.declared.Efficiency.{Efficiency}
-use Rattle.e79.specs.declared.Figures.{Figures}
-use Rattle.e79.specs.Quantities.{Ordered}
-use Rattle.e79.specs.Doubles.{quotientOf, efficiencyOf, combined, inTurn, figuresOf}
+use mathlib.Core.Path.{subst}
+use Rattle.e79.specs.Doubles.{figuresOf}
 use Rattle.e79.specs.Accuracy.{Accurate}
 use Rattle.e79.proofs.Products.{accurate}
 use Rattle.e79.proofs.figures_of_ordered.Statement.{statement}
@@ -32,10 +27,7 @@ product-of-requires c κs = search needs
 
 returns : tie.Need-returns
 unfolding figuresOf
-returns c =
-    let s = c .before .before .before .before .before .before in
-    rw (c .product-of .ensures, c .before .quotient-of .ensures, c .before .before .efficiency-of4 .ensures, c .before .before .before .efficiency-of3 .ensures, c .before .before .before .before .efficiency-of2 .ensures, c .before .before .before .before .before .efficiency-of .ensures)
-    (accurate (s .args .q) (s .pre))
+returns c = let s = c .before .before .before .before .before .before in subst (Accurate (s .args .q)) (cc) (accurate (s .args .q) (s .pre))
 
 pub figures-of-ordered-spec : {M : Type 1} → statement M
 figures-of-ordered-spec =

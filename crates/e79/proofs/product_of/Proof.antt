@@ -1,4 +1,4 @@
--- `figures::product_of` meets its contract. Each way out is given which constructors the four are, at which `combined` computes. The literal 0.0 is its bit pattern in MIR.
+-- `e79::product_of` meets its contract: on each way out it is known which of the four have a base, and there `combined` computes. The literal 0.0 is the double of its bit pattern.
 -- Assumes nothing.
 use borrow.Author.Needs.{needs}
 use lib.Ieee.{ofBits}
@@ -14,7 +14,7 @@ enum-told c = search needs
 
 returns : tie.Need-returns
 unfolding combined ofBits
-returns c = rw (c .enum-told .given .1)
+returns c = cc
 
 enum-known-operational : tie.Need-enum-known-operational
 enum-known-operational c = search needs
@@ -24,7 +24,7 @@ enum-told-2 c = search needs
 
 returns-2 : tie.Need-returns-2
 unfolding combined ofBits
-returns-2 c = rw (c .before .before .before .availability .given .1, c .enum-told2 .given .1)
+returns-2 c = cc
 
 enum-known-rate : tie.Need-enum-known-rate
 enum-known-rate c = search needs
@@ -34,7 +34,7 @@ enum-told-3 c = search needs
 
 returns-3 : tie.Need-returns-3
 unfolding combined ofBits
-returns-3 c = rw (c .before .before .before .before .before .before .availability .given .1, c .before .before .before .operational .given .1, c .enum-told3 .given .1)
+returns-3 c = cc
 
 enum-known-quality : tie.Need-enum-known-quality
 enum-known-quality c = search needs
@@ -44,11 +44,11 @@ enum-told-4 c = search needs
 
 returns-4 : tie.Need-returns-4
 unfolding combined ofBits
-returns-4 c = rw (c .before .before .before .before .before .before .before .before .before .availability .given .1, c .before .before .before .before .before .before .operational .given .1, c .before .before .before .rate .given .1, c .enum-told4 .given .1)
+returns-4 c = cc
 
 returns-5 : tie.Need-returns-5
 unfolding combined
-returns-5 c = rw (c .before .before .before .before .before .before .before .before .before .before .availability .given .1, c .before .before .before .before .before .before .before .operational .given .1, c .before .before .before .before .rate .given .1, c .before .quality .given .1)
+returns-5 c = cc
 
 pub product-of-spec : {M : Type 1} → statement M
 product-of-spec =

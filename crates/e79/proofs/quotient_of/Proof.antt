@@ -1,4 +1,4 @@
--- `quotient_of` meets its contract: both numbers are at most 2 ^ 53, so the casts lose nothing. Assumes nothing.
+-- `e79::quotient_of` meets its contract: both numbers are at most 2 ^ 53, so the casts lose nothing. Assumes nothing.
 use Prim.Native.Nat.{ℕ, _≤_, _^_}
 use native.Mathlib.Omega.{arith}
 use mathlib.Core.Path.{refl}

@@ -3,7 +3,6 @@ use borrow.Author.Needs.{needs}
 use Prim.Native.Nat.{ℕ, _*_, _/_, _%_, _≤_, _<_, _^_}
 use native.Mathlib.Nat.{le-of-lt}
 use native.Mathlib.Omega.{arith}
-use Rattle.e79.specs.Quantities.{Portion}
 use Rattle.e79.proofs.Printing.{step, half-not-reached, half-reached}
 use Rattle.e79.proofs.rounded_of.Statement.{statement}
 use Rattle.e79.proofs.rounded_of.Tie as tie
