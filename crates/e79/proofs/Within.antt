@@ -1,19 +1,19 @@
 -- `Within k x a c`: the double x is from 0 to 1 and at most k roundings away from a / c. A quotient is one rounding away (`quotient`). A product of two doubles with j and k roundings behind
 -- them has 1 + (j + k) behind it (`product`), whatever the two are, so any sequence and pairing of factors comes to a count. Seven are at most one part in 2 ^ 50 (`proper`). Assumes nothing.
-use mathlib.Core.Path.{_≡_, refl, sym, _∙_}
+use mathlib.Core.Path.{_≡_, refl, _∙_}
 use mathlib.Core.Logic.{inl, inr}
 use mathlib.Core.Bool.{true, false, true≢false}
-use Prim.Native.Nat.{ℕ, _+_, _-_, _*_, _^_, _≤_, _<_}
-use native.Mathlib.Nat.{le-trans, le-of-eq, le-of-lt, mul-assoc, mul-comm, mul-left-comm, mul-le-mul, mul-le-mul-left, mul-le-mul-right, le-of-mul-le-mul-left, le-of-mul-le-mul-right, mul-pos, mul-mul-mul-comm, add-comm, eq-zero-or-pos, mul-add, le-mul-of-pos-right}
+use Prim.Native.Nat.{ℕ, _+_, _*_, _^_, _≤_, _<_}
+use native.Mathlib.Nat.{le-trans, le-of-eq, le-of-lt, mul-assoc, mul-comm, mul-left-comm, mul-le-mul, mul-le-mul-left, mul-le-mul-right, le-of-mul-le-mul-left, le-of-mul-le-mul-right, mul-pos, mul-mul-mul-comm, eq-zero-or-pos, mul-add, le-mul-of-pos-right}
 use native.Mathlib.Omega.{arith}
 use lib.Dec.{lit≤}
 use lib.Pow.{pow-add, pow-pos, pow-mono}
-use lib.Ieee.{Float, nan, inf, fin, Format, binary64, low, up, down, round, mul}
+use lib.Ieee.{Float, nan, inf, fin, Format, binary64, low, up, round, mul}
 use lib.Ieee.Fits.{down-pos}
 use lib.Ieee.Exact.{HasValue}
 use lib.Ieee.Scale.{grid}
 use lib.Ieee.Positive.{num, den, den-pos, value→cross, first-pos}
-use Rattle.e79.specs.Accuracy.{gap, off, Proper}
+use Rattle.e79.specs.Accuracy.{off, Proper}
 use Rattle.e79.proofs.Ratios.{Close, close-mul, close-trans, close-same, close-once, close-half, close-seven, pos-back, pos-forth}
 use Rattle.e79.proofs.Rounded.{Normal, grid-le-one, grid-relative, round-value}
 

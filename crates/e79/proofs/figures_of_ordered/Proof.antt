@@ -1,8 +1,6 @@
 -- `e79::figures_of_ordered` meets its contract: the parts are what the callees ensure, so the set is `figuresOf`, and `proofs/Products.antt` says what that is worth. Assumes nothing.
 use borrow.Author.Needs.{needs}
-use mathlib.Core.Path.{subst}
 use Rattle.e79.specs.Doubles.{figuresOf}
-use Rattle.e79.specs.Accuracy.{Accurate}
 use Rattle.e79.proofs.Products.{accurate}
 use Rattle.e79.proofs.figures_of_ordered.Statement.{statement}
 use Rattle.e79.proofs.figures_of_ordered.Tie as tie
@@ -27,7 +25,15 @@ product-of-requires c κs = search needs
 
 returns : tie.Need-returns
 unfolding figuresOf
-returns c = let s = c .before .before .before .before .before .before in subst (Accurate (s .args .q)) (cc) (accurate (s .args .q) (s .pre))
+returns c =
+    let oee = c .before in
+    let quality = oee .before in
+    let rate = quality .before in
+    let operational = rate .before in
+    let availability = operational .before in
+    let start = availability .before in
+    rw (c .product-of .ensures, oee .quotient-of .ensures, quality .efficiency-of4 .ensures, rate .efficiency-of3 .ensures, operational .efficiency-of2 .ensures, availability .efficiency-of .ensures)
+    (accurate (start .args .q) (start .pre))
 
 pub figures-of-ordered-spec : {M : Type 1} → statement M
 figures-of-ordered-spec =
