@@ -1,0 +1,4 @@
+pub mod Quantities
+pub mod Doubles
+pub mod Accuracy
+pub mod Printed
