@@ -61,27 +61,27 @@ module _ (at : ℕ → Standard) (n recipe time : ℕ) where
       }
 
   -- a standard that has not begun
-  pub searching-passed : (best link next : ℕ) → 0 < link → Searching at n recipe time best link → time < at (pred link) .start
-      → next ≡ lastOf at (at (pred link) .recipe) (pred link) → (Searching at n recipe time best next) × (next < link)
-  searching-passed best zero next pos l h e = absurd (omega arith)
-  searching-passed best (suc i) next pos l h e =
+  pub searching-passed : (best link next now : ℕ) → 0 < link → Searching at n recipe time best link → time < at (pred link) .start
+      → now ≡ best → next ≡ lastOf at (at (pred link) .recipe) (pred link) → (Searching at n recipe time now next) × (next < link)
+  searching-passed best zero next now pos l h q e = absurd (omega arith)
+  searching-passed best (suc i) next now pos l h q e =
       let w = walk-next at n recipe (suc i) next pos (l .walk) e in
       let f : next ≡ lastOf at recipe i = e ∙ ap (λ (r : ℕ). lastOf at r i) (l .walk .own i refl) in
-      (record { walk = w .0; within = l .within; same = rw f (l .same ∙ ap (λ (o : Option Standard). laterOf o (linked at best)) (force-passed at recipe time i (l .walk .own i refl) h)) }, w .1)
+      (record { walk = w .0; within = rw q (l .within); same = rw (f, q) (l .same ∙ ap (λ (o : Option Standard). laterOf o (linked at best)) (force-passed at recipe time i (l .walk .own i refl) h)) }, w .1)
 
   -- one that has
-  pub searching-counted : (best link next better : ℕ) → 0 < link → Searching at n recipe time best link → at (pred link) .start ≤ time
-      → better ≤ n → linked at better ≡ laterOf (linked at link) (linked at best)
-      → next ≡ lastOf at (at (pred link) .recipe) (pred link) → (Searching at n recipe time better next) × (next < link)
-  searching-counted best zero next better pos l h low b e = absurd (omega arith)
-  searching-counted best (suc i) next better pos l h low b e =
+  pub searching-counted : (best link next now better : ℕ) → 0 < link → Searching at n recipe time best link → at (pred link) .start ≤ time
+      → now ≡ better → better ≤ n → linked at better ≡ laterOf (linked at link) (linked at best)
+      → next ≡ lastOf at (at (pred link) .recipe) (pred link) → (Searching at n recipe time now next) × (next < link)
+  searching-counted best zero next now better pos l h q low b e = absurd (omega arith)
+  searching-counted best (suc i) next now better pos l h q low b e =
       let w = walk-next at n recipe (suc i) next pos (l .walk) e in
       let f : next ≡ lastOf at recipe i = e ∙ ap (λ (r : ℕ). lastOf at r i) (l .walk .own i refl) in
       let o = inForce (upTo at (lastOf at recipe i)) recipe time in
       (record {
         walk = w .0;
-        within = low;
-        same = rw (f, b) (l .same ∙ ap (λ (x : Option Standard). laterOf x (linked at best)) (force-counted at recipe time i (l .walk .own i refl) h) ∙ later-assoc o (some (at i)) (linked at best));
+        within = rw q low;
+        same = rw (f, q, b) (l .same ∙ ap (λ (x : Option Standard). laterOf x (linked at best)) (force-counted at recipe time i (l .walk .own i refl) h) ∙ later-assoc o (some (at i)) (linked at best));
       }, w .1)
 
   -- where the starts rise, the first that has begun is in force

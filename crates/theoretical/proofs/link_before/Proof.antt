@@ -1,24 +1,18 @@
+-- `theoretical::link_before` meets its contract: a link is one more than an index.
+-- Assumes nothing.
 use borrow.Author.Needs.{needs}
+use mathlib.Core.Path.{_∙_, ap}
+use Prim.Native.Nat.{ℕ, pred, _-_}
+use native.Mathlib.Numerals.{sub-one}
+use native.Mathlib.Omega.{arith}
+use lib.ListN.{getD}
 use Rattle.theoretical.proofs.link_before.Statement.{statement}
 use Rattle.theoretical.proofs.link_before.Tie as tie
-use Rattle.theoretical.proofs.link_before.Reads as reads
-use Rattle.theoretical.proofs.link_before.Lts as lts
 
--- src/lib.rt:55:11
-sub-result : tie.Need-sub-result
-sub-result c = search needs
-
--- src/lib.rt:55:5
-mul-result : tie.Need-mul-result
-mul-result c = search needs
-
--- src/lib.rt:55:5
-element-copy-out-result : tie.Need-element-copy-out-result
-element-copy-out-result c = search needs
-
--- src/lib.rt:50:1
 returns : tie.Need-returns
-returns c = ?
+returns c =
+    let a = c .before .args in
+    ap (λ (i : ℕ). getD (a .links .now) i 0) (sub-one (a .link)) ∙ c .before .pre .0 .links (pred (a .link)) (omega arith)
 
 pub link-before-spec : {M : Type 1} → statement M
-link-before-spec = tie.close (tie.spec sub-result mul-result element-copy-out-result returns)
+link-before-spec = tie.close (tie.spec (λ c. search needs) (λ c. search needs) (λ c. search needs) returns)
