@@ -77,12 +77,14 @@ module _ (at : ℕ → Standard) (n recipe time : ℕ) where
   searching-counted best (suc i) next now better pos l h q low b e =
       let w = walk-next at n recipe (suc i) next pos (l .walk) e in
       let f : next ≡ lastOf at recipe i = e ∙ ap (λ (r : ℕ). lastOf at r i) (l .walk .own i refl) in
-      let o = inForce (upTo at (lastOf at recipe i)) recipe time in
-      (record {
-        walk = w .0;
-        within = rw q low;
-        same = rw (f, q, b) (l .same ∙ ap (λ (x : Option Standard). laterOf x (linked at best)) (force-counted at recipe time i (l .walk .own i refl) h) ∙ later-assoc o (some (at i)) (linked at best));
-      }, w .1)
+      let o = inForce (upTo at (lastOf at recipe i)) recipe time in (
+        record {
+          walk = w .0;
+          within = rw q low;
+          same = rw (f, q, b) (l .same ∙ ap (λ (x : Option Standard). laterOf x (linked at best)) (force-counted at recipe time i (l .walk .own i refl) h) ∙ later-assoc o (some (at i)) (linked at best));
+        },
+        w .1,
+      )
 
   -- where the starts rise, the first that has begun is in force
   pub searching-newest : (link : ℕ) → 0 < link → Rising at n → Searching at n recipe time 0 link → at (pred link) .start ≤ time → Leads at n recipe time link

@@ -21,6 +21,7 @@ pub record Chained (at : ℕ → Standard) (n : ℕ) (S B : List ℕ) : Type 0 w
   pub links : (i : ℕ) → i < n → getD B i 0 ≡ lastOf at (at i .recipe) i
 
 pub record Listing (at : ℕ → Standard) (n : ℕ) (S T B L : List ℕ) : Type 0 where
+  pub sized : (length S ≡ 512) × (length T ≡ 512) × (length B ≡ 512) × (length L ≡ 1024)
   pub chained : Chained at n S B
   pub times : (i : ℕ) → i < n → getD T i 0 ≡ at i .theoretical
   pub lasts : (recipe : ℕ) → recipe < 1024 → getD L recipe 0 ≡ lastOf at recipe n

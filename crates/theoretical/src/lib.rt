@@ -38,7 +38,14 @@ fn refused(number: usize, list: usize, place: usize) -> Verdict
 }
 
 // The start of the standard that a link leads to.
-fn start_of(log: &[u8], h: Header, n: usize, starts: &[u64; 512], links: &[usize; 512], link: usize) -> u64
+fn start_of(
+    log: &[u8],
+    h: Header,
+    n: usize,
+    starts: &[u64; 512],
+    links: &[usize; 512],
+    link: usize,
+) -> u64
     requires { ⌜ Chained (standardAt (now log) h) n (now starts) (now links) ⌝ }
     requires { ⌜ (0 < link) × (link ≤ n) ⌝ }
     ensures { λ r. ⌜ r ≡ standardAt (now (log .entry)) h (pred link) .start ⌝ }
@@ -47,7 +54,14 @@ fn start_of(log: &[u8], h: Header, n: usize, starts: &[u64; 512], links: &[usize
 }
 
 // The link to the standard of the same recipe before it.
-fn link_before(log: &[u8], h: Header, n: usize, starts: &[u64; 512], links: &[usize; 512], link: usize) -> usize
+fn link_before(
+    log: &[u8],
+    h: Header,
+    n: usize,
+    starts: &[u64; 512],
+    links: &[usize; 512],
+    link: usize,
+) -> usize
     requires { ⌜ Chained (standardAt (now log) h) n (now starts) (now links) ⌝ }
     requires { ⌜ (0 < link) × (link ≤ n) ⌝ }
     ensures { λ r. ⌜ r ≡ lastOf (standardAt (now (log .entry)) h) (standardAt (now (log .entry)) h (pred link) .recipe) (pred link) ⌝ }
@@ -56,7 +70,15 @@ fn link_before(log: &[u8], h: Header, n: usize, starts: &[u64; 512], links: &[us
 }
 
 // Whether one of the first n standards has this recipe and this start: a walk along the recipe's chain.
-fn is_listed(log: &[u8], h: Header, n: usize, starts: &[u64; 512], links: &[usize; 512], from: usize, s: Standard) -> bool
+fn is_listed(
+    log: &[u8],
+    h: Header,
+    n: usize,
+    starts: &[u64; 512],
+    links: &[usize; 512],
+    from: usize,
+    s: Standard,
+) -> bool
     requires { ⌜ Chained (standardAt (now log) h) n (now starts) (now links) ⌝ }
     requires { ⌜ from ≡ lastOf (standardAt (now log) h) (s .recipe) n ⌝ }
     ensures { λ r. ⌜ r ≡ isAmong s (upTo (standardAt (now (log .entry)) h) n) ⌝ }
@@ -72,7 +94,16 @@ fn is_listed(log: &[u8], h: Header, n: usize, starts: &[u64; 512], links: &[usiz
 }
 
 // The link to the standard in force where the starts rise: the first on the chain that has begun.
-fn newest(log: &[u8], h: Header, n: usize, starts: &[u64; 512], links: &[usize; 512], from: usize, recipe: usize, time: u64) -> usize
+fn newest(
+    log: &[u8],
+    h: Header,
+    n: usize,
+    starts: &[u64; 512],
+    links: &[usize; 512],
+    from: usize,
+    recipe: usize,
+    time: u64,
+) -> usize
     requires { ⌜ Chained (standardAt (now log) h) n (now starts) (now links) ⌝ }
     requires { ⌜ from ≡ lastOf (standardAt (now log) h) recipe n ⌝ }
     requires { ⌜ Rising (standardAt (now log) h) n ⌝ }
@@ -89,7 +120,15 @@ fn newest(log: &[u8], h: Header, n: usize, starts: &[u64; 512], links: &[usize; 
 }
 
 // Of the best link so far and one before it, the one to the later start, and the one before where they are equal.
-fn better(log: &[u8], h: Header, n: usize, starts: &[u64; 512], links: &[usize; 512], best: usize, link: usize) -> usize
+fn better(
+    log: &[u8],
+    h: Header,
+    n: usize,
+    starts: &[u64; 512],
+    links: &[usize; 512],
+    best: usize,
+    link: usize,
+) -> usize
     requires { ⌜ Chained (standardAt (now log) h) n (now starts) (now links) ⌝ }
     requires { ⌜ (0 < link) × (link ≤ n) × (best ≤ n) ⌝ }
     ensures { λ r. ⌜ (r ≤ n) × (linked (standardAt (now (log .entry)) h) r ≡ laterOf (linked (standardAt (now (log .entry)) h) link) (linked (standardAt (now (log .entry)) h) best)) ⌝ }
@@ -105,7 +144,16 @@ fn better(log: &[u8], h: Header, n: usize, starts: &[u64; 512], links: &[usize; 
 }
 
 // The link to the standard in force, in lists in any sequence: the whole chain is walked.
-fn latest(log: &[u8], h: Header, n: usize, starts: &[u64; 512], links: &[usize; 512], from: usize, recipe: usize, time: u64) -> usize
+fn latest(
+    log: &[u8],
+    h: Header,
+    n: usize,
+    starts: &[u64; 512],
+    links: &[usize; 512],
+    from: usize,
+    recipe: usize,
+    time: u64,
+) -> usize
     requires { ⌜ Chained (standardAt (now log) h) n (now starts) (now links) ⌝ }
     requires { ⌜ from ≡ lastOf (standardAt (now log) h) recipe n ⌝ }
     ensures { λ r. ⌜ Leads (standardAt (now (log .entry)) h) n recipe time r ⌝ }
@@ -119,4 +167,121 @@ fn latest(log: &[u8], h: Header, n: usize, starts: &[u64; 512], links: &[usize; 
         link = link_before(log, h, n, starts, links, link);
     }
     best
+}
+
+// The link to the standard in force for a recipe at a time, and 0 where none is.
+fn link_in_force(
+    log: &[u8],
+    h: Header,
+    n: usize,
+    starts: &[u64; 512],
+    links: &[usize; 512],
+    from: usize,
+    recipe: usize,
+    time: u64,
+    rising: bool,
+) -> usize
+    requires { ⌜ Chained (standardAt (now log) h) n (now starts) (now links) ⌝ }
+    requires { ⌜ from ≡ lastOf (standardAt (now log) h) recipe n ⌝ }
+    requires { ⌜ (rising ≡ true → Rising (standardAt (now log) h) n) ⌝ }
+    ensures { λ r. ⌜ Leads (standardAt (now (log .entry)) h) n recipe time r ⌝ }
+{
+    if rising {
+        newest(log, h, n, starts, links, from, recipe, time)
+    } else {
+        latest(log, h, n, starts, links, from, recipe, time)
+    }
+}
+
+// The standard in force for a recipe at a time, or none.
+fn look_up(
+    log: &[u8],
+    h: Header,
+    n: usize,
+    starts: &[u64; 512],
+    times: &[u64; 512],
+    links: &[usize; 512],
+    last: &[usize; 1024],
+    rising: bool,
+    recipe: usize,
+    time: u64,
+) -> Lookup
+    requires { ⌜ Listing (standardAt (now log) h) n (now starts) (now times) (now links) (now last) ⌝ }
+    requires { ⌜ (rising ≡ true → Rising (standardAt (now log) h) n) ⌝ }
+    requires { ⌜ recipe < 1024 ⌝ }
+    ensures { λ r. ⌜ r ≡ lookupOf (inForce (upTo (standardAt (now (log .entry)) h) n) recipe time) ⌝ }
+{
+    let from = last[recipe];
+    let link = link_in_force(log, h, n, starts, links, from, recipe, time, rising);
+    if link == 0 {
+        return Lookup::Nothing;
+    }
+    let i = link - 1;
+    Lookup::Found(Standard {
+        recipe,
+        start: starts[i],
+        theoretical: times[i],
+    })
+}
+
+// Whether a start is later than that of every earlier standard of its recipe, where the starts rise.
+fn is_newest(
+    log: &[u8],
+    h: Header,
+    n: usize,
+    starts: &[u64; 512],
+    links: &[usize; 512],
+    from: usize,
+    start: u64,
+) -> bool
+    requires { ⌜ Chained (standardAt (now log) h) n (now starts) (now links) ⌝ }
+    requires { ⌜ from ≤ n ⌝ }
+    ensures { λ r. ⌜ (r ≡ true → (0 < from → standardAt (now (log .entry)) h (pred from) .start < start)) ⌝ }
+{
+    if from == 0 {
+        return true;
+    }
+    start_of(log, h, n, starts, links, from) < start
+}
+
+// Standard i tested for 9, 12 and 13.
+fn test_standard(
+    log: &[u8],
+    h: Header,
+    i: usize,
+    starts: &[u64; 512],
+    links: &[usize; 512],
+    from: usize,
+    rising: bool,
+    s: Standard,
+) -> Listed
+    requires { ⌜ Chained (standardAt (now log) h) i (now starts) (now links) ⌝ }
+    requires { ⌜ (s ≡ standardAt (now log) h i) × (from ≡ lastOf (standardAt (now log) h) (s .recipe) i) ⌝ }
+    requires { ⌜ (rising ≡ true → Rising (standardAt (now log) h) i) ⌝ }
+    ensures { λ r. ⌜ Tested (h .period) (standardAt (now (log .entry)) h) i r ⌝ }
+{
+    if h.period <= s.start {
+        let verdict = refused(9, 2, i);
+        return Listed { verdict, rising };
+    }
+    if s.theoretical == 0 {
+        let verdict = refused(12, 2, i);
+        return Listed { verdict, rising };
+    }
+    if rising {
+        if is_newest(log, h, i, starts, links, from, s.start) {
+            return Listed {
+                verdict: Verdict::Accepted,
+                rising: true,
+            };
+        }
+    }
+    if is_listed(log, h, i, starts, links, from, s) {
+        let verdict = refused(13, 2, i);
+        return Listed { verdict, rising };
+    }
+    Listed {
+        verdict: Verdict::Accepted,
+        rising: false,
+    }
 }

@@ -1,0 +1,98 @@
+-- The standards tested and listed, one by one.
+-- Assumes nothing.
+use mathlib.Core.Path.{_≡_, refl, sym, ap, _∙_}
+use mathlib.Core.Bool.{Bool, true, false}
+use mathlib.Core.Option.{Option, none, some}
+use mathlib.Core.List.{List}
+use Prim.Native.Nat.{ℕ, zero, suc, pred, _+_, _≤_, _<_}
+use native.Mathlib.Numerals.{add-one}
+use native.Mathlib.Decide.{ℕ-discrete, decLt}
+use native.Mathlib.Omega.{arith}
+use lib.ListN.{length, getD, set, length-set}
+use lib.Seq.{getD-set-same, getD-set-other}
+use borrow.Author.Tests.{le-leb, lt-leb, eq-eqb, ne-eqb}
+use Rattle.records.specs.declared.Standard.{Standard}
+use Rattle.records.specs.Log.{upTo}
+use Rattle.rules.specs.declared.Refusal.{Refusal}
+use Rattle.rules.specs.declared.Verdict.{Verdict}
+use Rattle.rules.specs.declared.Verdict.the-variants.{Accepted, Refused}
+use Rattle.rules.specs.Grounds.{firstOf}
+use Rattle.rules.specs.Theoretical.{inForce}
+use Rattle.rules.specs.RecordGrounds.{isAmong, standardGround, standardGrounds}
+use Rattle.rules.proofs.FirstGround.{refused-not}
+use Rattle.rules.proofs.InForce.{Answers, in-force}
+use Rattle.theoretical.specs.declared.Listed.{Listed}
+use Rattle.theoretical.specs.declared.Lookup.{Lookup}
+use Rattle.theoretical.specs.declared.Lookup.the-variants.{Found, Nothing}
+use Rattle.theoretical.specs.Chains.{lastOf, linked, Rising, Leads, lookupOf}
+use Rattle.theoretical.specs.Listing.{Chained, Listing, Tested}
+use Rattle.theoretical.proofs.ChainLaws.{last-own, last-other, last-le, last-is, last-none, among-none}
+
+-- ---- what is looked up
+
+-- the standard that is put together from the arrays is the one that the link leads to
+pub looked-up : (at : ℕ → Standard) (n : ℕ) (S T B L : List ℕ) → Listing at n S T B L → (recipe time link : ℕ) → Leads at n recipe time link → 0 < link
+    → Found (record { recipe = recipe; start = getD S (pred link) 0; theoretical = getD T (pred link) 0 }) ≡ lookupOf (inForce (upTo at n) recipe time)
+looked-up at n S T B L listing recipe time zero leads pos = absurd (omega arith)
+looked-up at n S T B L listing recipe time (suc i) leads pos =
+    let own : at i .recipe ≡ recipe = recipe-of (inForce (upTo at n) recipe time) (leads .answer) (in-force at recipe time n) in
+    rw (leads .answer, listing .chained .starts i (leads .within), listing .times i (leads .within)) (ap Found (λ j. record { recipe = sym own j; start = at i .start; theoretical = at i .theoretical }))
+  where
+    recipe-of : (o : Option Standard) → o ≡ some (at i) → Answers at n recipe time o → at i .recipe ≡ recipe
+    recipe-of none e a = let z : _≡_ {A = ℕ} 0 1 = cc in absurd (omega arith)
+    recipe-of (some s) e f = let q : s ≡ at i = cc in rw q at (f .own)
+
+pub looked-none : (at : ℕ → Standard) (n recipe time link : ℕ) → Leads at n recipe time link → link ≡ 0 → Nothing ≡ lookupOf (inForce (upTo at n) recipe time)
+looked-none at n recipe time link leads e = sym (ap lookupOf (leads .answer ∙ ap (linked at) e))
+
+-- ---- one standard tested
+
+module _ (period : ℕ) (at : ℕ → Standard) (i : ℕ) (s : Standard) (es : s ≡ at i) where
+  refusal : (v : Verdict) (b : Bool) (r : Refusal) → v ≡ Refused r → v ≡ standardGround period (upTo at i) i (at i) → Tested period at i (record { verdict = v; rising = b })
+  refusal v b r e a = record { answer = a; rising = λ f g. absurd (refused-not (sym e ∙ f)) }
+
+  pub test-outside : (v : Verdict) (b : Bool) → v ≡ Refused (record { number = 9; list = 2; place = i }) → period ≤ s .start → Tested period at i (record { verdict = v; rising = b })
+  unfolding standardGround
+  test-outside v b e h = refusal v b _ e (e ∙ rw (← es, le-leb period (s .start) h))
+
+  pub test-no-time : (v : Verdict) (b : Bool) → v ≡ Refused (record { number = 12; list = 2; place = i }) → s .start < period → s .theoretical ≡ 0 → Tested period at i (record { verdict = v; rising = b })
+  unfolding standardGround
+  test-no-time v b e h z = refusal v b _ e (e ∙ rw (← es, lt-leb period (s .start) h, eq-eqb (s .theoretical) 0 z))
+
+  pub test-twice : (v : Verdict) (b : Bool) → v ≡ Refused (record { number = 13; list = 2; place = i }) → s .start < period → (s .theoretical ≡ 0 → ⊥) → true ≡ isAmong s (upTo at i)
+      → Tested period at i (record { verdict = v; rising = b })
+  unfolding standardGround
+  test-twice v b e h z a = refusal v b _ e (e ∙ rw (← es, lt-leb period (s .start) h, ne-eqb (s .theoretical) 0 z, ← a))
+
+  passes : s .start < period → (s .theoretical ≡ 0 → ⊥) → isAmong s (upTo at i) ≡ false → Accepted ≡ standardGround period (upTo at i) i (at i)
+  unfolding standardGround
+  passes h z a = rw (← es, lt-leb period (s .start) h, ne-eqb (s .theoretical) 0 z, a)
+
+  pub test-passed : s .start < period → (s .theoretical ≡ 0 → ⊥) → false ≡ isAmong s (upTo at i) → Tested period at i (record { verdict = Accepted; rising = false })
+  test-passed h z a = record { answer = passes h z (sym a); rising = λ f g. let q : _≡_ {A = ℕ} 0 1 = cc in absurd (omega arith) }
+
+  -- later than the last of its recipe, where the starts rise, is later than all of them
+  module _ (up : Rising at i) (from : ℕ) (ef : from ≡ lastOf at (s .recipe) i) (new : 0 < from → at (pred from) .start < s .start) where
+    above : (j : ℕ) → j < i → at j .recipe ≡ s .recipe → at j .start < s .start
+    above j h o = go from ef new
+      where
+        go : (f : ℕ) → f ≡ lastOf at (s .recipe) i → (0 < f → at (pred f) .start < s .start) → at j .start < s .start
+        go zero e n = absurd (last-none at (s .recipe) i j h (omega arith) o)
+        go (suc k) e n =
+            let low : k < i = omega (arith, last-le at (s .recipe) i) in
+            let own : at k .recipe ≡ s .recipe = last-is at (s .recipe) i k (sym e) in
+            elim (decLt j k) [
+              | yes l ↦ omega (arith, up .rises j k l low (o ∙ sym own), n (omega arith))
+              | no l ↦ elim (ℕ-discrete j k) [ yes q ↦ rw q (n (omega arith)) | no q ↦ absurd (last-none at (s .recipe) i j h (omega (arith, q)) o) ]
+            ]
+
+    rises-more : Rising at (i + 1)
+    rises-more = record { rises = λ j k l h o. elim (ℕ-discrete k i) [ yes q ↦ rise-last j k q l o | no q ↦ up .rises j k l (omega (arith, q)) o ] }
+      where
+        rise-last : (j k : ℕ) → k ≡ i → j < k → at j .recipe ≡ at k .recipe → at j .start < at k .start
+        rise-last j k q l o =
+            let e : at k ≡ s = ap at q ∙ sym es in
+            rw e (above j (omega arith) (o ∙ ap (λ (x : Standard). x .recipe) e))
+
+    pub test-newest : s .start < period → (s .theoretical ≡ 0 → ⊥) → Tested period at i (record { verdict = Accepted; rising = true })
+    test-newest h z = record { answer = passes h z (among-none at s i (λ j l o e. omega (arith, above j l o))); rising = λ f g. rises-more }
