@@ -19,13 +19,13 @@ use Rattle.rules.specs.declared.Verdict.the-variants.{Accepted, Refused}
 use Rattle.rules.specs.Grounds.{firstOf}
 use Rattle.rules.specs.Theoretical.{inForce}
 use Rattle.rules.specs.RecordGrounds.{isAmong, standardGround, standardGrounds}
-use Rattle.rules.proofs.FirstGround.{refused-not}
+use Rattle.rules.proofs.FirstGround.{refused-not, first-none, first-more, first-stop, turn-range}
 use Rattle.rules.proofs.InForce.{Answers, in-force}
 use Rattle.theoretical.specs.declared.Listed.{Listed}
 use Rattle.theoretical.specs.declared.Lookup.{Lookup}
 use Rattle.theoretical.specs.declared.Lookup.the-variants.{Found, Nothing}
 use Rattle.theoretical.specs.Chains.{lastOf, linked, Rising, Leads, lookupOf}
-use Rattle.theoretical.specs.Listing.{Chained, Listing, Tested}
+use Rattle.theoretical.specs.Listing.{Listing, Tested, Added, AllListed}
 use Rattle.theoretical.proofs.ChainLaws.{last-own, last-other, last-le, last-is, last-none, among-none}
 
 -- ---- what is looked up
@@ -96,3 +96,83 @@ module _ (period : ℕ) (at : ℕ → Standard) (i : ℕ) (s : Standard) (es : s
 
     pub test-newest : s .start < period → (s .theoretical ≡ 0 → ⊥) → Tested period at i (record { verdict = Accepted; rising = true })
     test-newest h z = record { answer = passes h z (among-none at s i (λ j l o e. omega (arith, above j l o))); rising = λ f g. rises-more }
+
+-- ---- one standard listed
+
+module _ (at : ℕ → Standard) (i : ℕ) (S T B L : List ℕ) (listing : Listing at i S T B L) (small : i < 512) (low : at i .recipe < 1024) where
+  -- an array with what belongs to i at i
+  kept : (X : List ℕ) (f : ℕ → ℕ) → length X ≡ 512 → ((j : ℕ) → j < i → getD X j 0 ≡ f j) → (j : ℕ) → j < i + 1 → getD (set X i (f i)) j 0 ≡ f j
+  kept X f len h j l =
+      elim (ℕ-discrete j i) [
+        | yes q ↦ rw q (getD-set-same X i (f i) 0 (omega arith))
+        | no q ↦ getD-set-other X i j (f i) 0 q ∙ h j (omega (arith, q))
+      ]
+
+  lasts-more : (recipe : ℕ) → recipe < 1024 → getD (set L (at i .recipe) (i + 1)) recipe 0 ≡ lastOf at recipe (i + 1)
+  lasts-more recipe h =
+      rw (add-one i)
+      (elim (ℕ-discrete (at i .recipe) recipe) [
+        | yes q ↦ rw (last-own at recipe i q, ← q) (getD-set-same L (at i .recipe) (suc i) 0 (omega (arith, listing .sized .3)))
+        | no q ↦ rw (last-other at recipe i q) (getD-set-other L (at i .recipe) recipe (suc i) 0 (λ e. q (sym e)) ∙ listing .lasts recipe h)
+      ])
+
+  pub listed-more : Listing at (i + 1) (set S i (at i .start)) (set T i (at i .theoretical)) (set B i (getD L (at i .recipe) 0)) (set L (at i .recipe) (i + 1))
+  listed-more =
+      record {
+        sized = (length-set S _ _ ∙ listing .sized .0, length-set T _ _ ∙ listing .sized .1, length-set B _ _ ∙ listing .sized .2, length-set L _ _ ∙ listing .sized .3);
+        chained =
+            record {
+              few = omega arith;
+              starts = kept S (λ j. at j .start) (listing .sized .0) (listing .chained .starts);
+              links = rw (listing .lasts (at i .recipe) low) (kept B (λ j. lastOf at (at j .recipe) j) (listing .sized .2) (listing .chained .links));
+            };
+        times = kept T (λ j. at j .theoretical) (listing .sized .1) (listing .times);
+        lasts = lasts-more;
+      }
+
+-- ---- all of them, one by one
+
+abbrev tests : ℕ → (ℕ → Standard) → ℕ → Verdict
+tests period at i = standardGround period (upTo at i) i (at i)
+
+-- the first i were tested, passed and listed
+pub record ListedTo (period : ℕ) (at : ℕ → Standard) (n i : ℕ) (b : Bool) (S T B L : List ℕ) : Type 0 where
+  pub within : i ≤ n
+  pub fine : firstOf (tests period at) i ≡ Accepted
+  pub rising : b ≡ true → Rising at i
+  pub listing : Listing at i S T B L
+
+module _ (period : ℕ) (at : ℕ → Standard) (n : ℕ) where
+  pub listed-none : (S T B L : List ℕ) → Listing at 0 S T B L → ListedTo period at n 0 true S T B L
+  listed-none S T B L l =
+      record { within = omega arith; fine = first-none (tests period at); rising = λ e. record { rises = λ i j h k. absurd (omega arith) }; listing = l }
+
+  pub listed-step : (i : ℕ) (b : Bool) (S T B L : List ℕ) → i < n → ListedTo period at n i b S T B L → (r : Listed) (S′ T′ B′ L′ : List ℕ) → Added period at i r S′ T′ B′ L′
+      → r .verdict ≡ Accepted → ListedTo period at n (i + 1) (r .rising) S′ T′ B′ L′
+  listed-step i b S T B L h l r S′ T′ B′ L′ a e =
+      record {
+        within = omega arith;
+        fine = first-more (tests period at) i (l .fine) (sym (a .tested .answer) ∙ e);
+        rising = a .tested .rising e;
+        listing = a .listing e;
+      }
+
+  pub listed-stop : (i : ℕ) (b : Bool) (S T B L : List ℕ) → i < n → ListedTo period at n i b S T B L → (r : Listed) (S′ T′ B′ L′ : List ℕ) → Added period at i r S′ T′ B′ L′
+      → (x : Refusal) → r .verdict ≡ Refused x → AllListed period at n r S′ T′ B′ L′
+  unfolding standardGrounds
+  listed-stop i b S T B L h l r S′ T′ B′ L′ a x e =
+      record {
+        answer = e ∙ sym (turn-range (standardGround period) at n ∙ first-stop (tests period at) n i x h (l .fine) (sym (a .tested .answer) ∙ e));
+        rising = λ f. absurd (refused-not (sym e ∙ f));
+        listing = λ f. absurd (refused-not (sym e ∙ f));
+      }
+
+  pub listed-all : (i : ℕ) (b : Bool) (S T B L : List ℕ) → n ≤ i → ListedTo period at n i b S T B L → AllListed period at n (record { verdict = Accepted; rising = b }) S T B L
+  unfolding standardGrounds
+  listed-all i b S T B L h l =
+      let q : i ≡ n = omega (arith, l .within) in
+      record {
+        answer = sym (turn-range (standardGround period) at n ∙ rw q at (l .fine));
+        rising = λ e f. rw q at (l .rising f);
+        listing = λ e. rw q at (l .listing);
+      }

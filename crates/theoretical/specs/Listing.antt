@@ -31,6 +31,11 @@ pub record Tested (period : ℕ) (at : ℕ → Standard) (i : ℕ) (r : Listed) 
   pub answer : r .verdict ≡ standardGround period (upTo at i) i (at i)
   pub rising : r .verdict ≡ Accepted → r .rising ≡ true → Rising at (i + 1)
 
+-- standard i tested, and listed where it passes
+pub record Added (period : ℕ) (at : ℕ → Standard) (i : ℕ) (r : Listed) (S T B L : List ℕ) : Type 0 where
+  pub tested : Tested period at i r
+  pub listing : r .verdict ≡ Accepted → Listing at (i + 1) S T B L
+
 -- all n standards tested and listed
 pub record AllListed (period : ℕ) (at : ℕ → Standard) (n : ℕ) (r : Listed) (S T B L : List ℕ) : Type 0 where
   pub answer : r .verdict ≡ standardGrounds period (upTo at n)

@@ -7,7 +7,7 @@ ghost use Rattle.records.specs.Log.{upTo, standardAt, unitAt};
 ghost use Rattle.rules.specs.Theoretical.{inForce};
 ghost use Rattle.rules.specs.RecordGrounds.{isAmong, standardGround, unitGround};
 ghost use Rattle.theoretical.specs.Chains.{lastOf, linked, laterOf, Rising, Leads, lookupOf};
-ghost use Rattle.theoretical.specs.Listing.{Chained, Listing, Tested, AllListed};
+ghost use Rattle.theoretical.specs.Listing.{Chained, Listing, Tested, Added, AllListed};
 ghost use Rattle.theoretical.specs.Credits.{Credited, Units};
 use records::Header;
 use records::Standard;
@@ -283,5 +283,83 @@ fn test_standard(
     Listed {
         verdict: Verdict::Accepted,
         rising: false,
+    }
+}
+
+// Standard i put into the arrays, behind the last one of its recipe.
+fn store_standard(
+    log: &[u8],
+    h: Header,
+    i: usize,
+    starts: &mut [u64; 512],
+    times: &mut [u64; 512],
+    links: &mut [usize; 512],
+    last: &mut [usize; 1024],
+    s: Standard,
+)
+    requires { ⌜ Listing (standardAt (now log) h) i (now starts) (now times) (now links) (now last) ⌝ }
+    requires { ⌜ (s ≡ standardAt (now log) h i) × (i < 512) ⌝ }
+    ensures { λ r. ⌜ Listing (standardAt (now (log .entry)) h) (i + 1) (now (starts .exit)) (now (times .exit)) (now (links .exit)) (now (last .exit)) ⌝ }
+{
+    let recipe = s.recipe;
+    starts[i] = s.start;
+    times[i] = s.theoretical;
+    links[i] = last[recipe];
+    last[recipe] = i + 1;
+}
+
+// Standard i tested, and listed where it passes.
+fn list_standard(
+    log: &[u8],
+    h: Header,
+    i: usize,
+    starts: &mut [u64; 512],
+    times: &mut [u64; 512],
+    links: &mut [usize; 512],
+    last: &mut [usize; 1024],
+    rising: bool,
+) -> Listed
+    requires { ⌜ Listing (standardAt (now log) h) i (now starts) (now times) (now links) (now last) ⌝ }
+    requires { ⌜ (rising ≡ true → Rising (standardAt (now log) h) i) ⌝ }
+    requires { ⌜ i < 512 ⌝ }
+    ensures { λ r. ⌜ Added (h .period) (standardAt (now (log .entry)) h) i r (now (starts .exit)) (now (times .exit)) (now (links .exit)) (now (last .exit)) ⌝ }
+{
+    let s = records::standard_record(log, h, i);
+    let recipe = s.recipe;
+    let from = last[recipe];
+    let tested = test_standard(log, h, i, starts, links, from, rising, s);
+    let verdict = tested.verdict;
+    if let Verdict::Accepted = verdict {
+        store_standard(log, h, i, starts, times, links, last, s);
+    }
+    tested
+}
+
+// All standards, one by one, up to the first that is refused.
+fn list_standards(
+    log: &[u8],
+    h: Header,
+    starts: &mut [u64; 512],
+    times: &mut [u64; 512],
+    links: &mut [usize; 512],
+    last: &mut [usize; 1024],
+) -> Listed
+    requires { ⌜ h .standards ≤ 512 ⌝ }
+    requires { ⌜ Listing (standardAt (now log) h) 0 (now starts) (now times) (now links) (now last) ⌝ }
+    ensures { λ r. ⌜ AllListed (h .period) (standardAt (now (log .entry)) h) (h .standards) r (now (starts .exit)) (now (times .exit)) (now (links .exit)) (now (last .exit)) ⌝ }
+{
+    let mut rising = true;
+    let n = h.standards;
+    for i in 0..n {
+        let added = list_standard(log, h, i, starts, times, links, last, rising);
+        let verdict = added.verdict;
+        if let Verdict::Refused(_) = verdict {
+            return added;
+        }
+        rising = added.rising;
+    }
+    Listed {
+        verdict: Verdict::Accepted,
+        rising,
     }
 }
