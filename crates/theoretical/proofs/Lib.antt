@@ -1,3 +1,4 @@
 pub mod ChainLaws
 pub mod Walks
 pub mod Listings
+pub mod Crediting

@@ -1,14 +1,14 @@
 // Credits each unit with the theoretical time in force when it was made: the standards are tested and listed once, then the unit records are tested and summed.
 ghost use mathlib.Core.Path.{_≡_};
 ghost use mathlib.Core.Bool.{true};
-ghost use Prim.Native.Nat.{pred, _+_, _<_, _≤_};
-ghost use lib.ListN.{getD, replicate};
+ghost use Prim.Native.Nat.{pred, _+_, _*_, _^_, _<_, _≤_};
+ghost use lib.ListN.{getD, set, replicate};
 ghost use Rattle.records.specs.Log.{upTo, standardAt, unitAt};
 ghost use Rattle.rules.specs.Theoretical.{inForce};
 ghost use Rattle.rules.specs.RecordGrounds.{isAmong, standardGround, unitGround};
 ghost use Rattle.theoretical.specs.Chains.{lastOf, linked, laterOf, Rising, Leads, lookupOf};
 ghost use Rattle.theoretical.specs.Listing.{Chained, Listing, Tested, Added, AllListed};
-ghost use Rattle.theoretical.specs.Credits.{Credited, Units};
+ghost use Rattle.theoretical.specs.Credits.{ownGrounds, Summed, Unit, AllUnits, Units};
 use records::Header;
 use records::Standard;
 use records::UnitRecord;
@@ -362,4 +362,149 @@ fn list_standards(
         verdict: Verdict::Accepted,
         rising,
     }
+}
+
+// A unit record tested for 6, 7, 9 and 14, which look at it alone.
+fn test_unit(h: Header, i: usize, u: UnitRecord) -> Verdict
+    ensures { λ r. ⌜ r ≡ ownGrounds (h .period) (h .modules) i u ⌝ }
+{
+    if u.spare != 0 {
+        return refused(6, 3, i);
+    }
+    if h.modules <= u.module {
+        return refused(7, 3, i);
+    }
+    if h.period <= u.time {
+        return refused(9, 3, i);
+    }
+    if u.actual < u.effective {
+        return refused(14, 3, i);
+    }
+    Verdict::Accepted
+}
+
+// The sum of module m grows by the theoretical time for these units.
+fn credit(sums: &mut [u64; 64], m: usize, units: u64, theoretical: u64)
+    requires { ⌜ (m < 64) × (units < 65536) × (theoretical < 134217728) × (getD (now sums) m 0 < 2 ^ 63) ⌝ }
+    ensures { λ r. ⌜ now (sums .exit) ≡ set (now (sums .entry)) m (getD (now (sums .entry)) m 0 + units * theoretical) ⌝ }
+{
+    sums[m] = sums[m] + units * theoretical;
+}
+
+// Unit record i tested, and its units credited to its module where it passes.
+fn credit_unit(
+    log: &[u8],
+    h: Header,
+    i: usize,
+    starts: &[u64; 512],
+    times: &[u64; 512],
+    links: &[usize; 512],
+    last: &[usize; 1024],
+    rising: bool,
+    actual: &mut [u64; 64],
+    effective: &mut [u64; 64],
+) -> Verdict
+    requires { ⌜ Listing (standardAt (now log) h) (h .standards) (now starts) (now times) (now links) (now last) ⌝ }
+    requires { ⌜ (rising ≡ true → Rising (standardAt (now log) h) (h .standards)) ⌝ }
+    requires { ⌜ Summed (upTo (standardAt (now log) h) (h .standards)) (upTo (unitAt (now log) h) i) i (now actual) (now effective) ⌝ }
+    requires { ⌜ i < 2000 ⌝ }
+    ensures { λ r. ⌜ Unit (h .period) (h .modules) (upTo (standardAt (now (log .entry)) h) (h .standards)) (unitAt (now (log .entry)) h) i r (now (actual .exit)) (now (effective .exit)) ⌝ }
+{
+    let u = records::unit_record(log, h, i);
+    let own = test_unit(h, i, u);
+    if let Verdict::Refused(_) = own {
+        return own;
+    }
+    let n = h.standards;
+    let Lookup::Found(s) = look_up(
+        log,
+        h,
+        n,
+        starts,
+        times,
+        links,
+        last,
+        rising,
+        u.recipe,
+        u.time,
+    ) else {
+        return refused(15, 3, i);
+    };
+    let m = u.module;
+    credit(actual, m, u.actual, s.theoretical);
+    credit(effective, m, u.effective, s.theoretical);
+    Verdict::Accepted
+}
+
+// All unit records, one by one, up to the first that is refused.
+fn credit_listed(
+    log: &[u8],
+    h: Header,
+    starts: &[u64; 512],
+    times: &[u64; 512],
+    links: &[usize; 512],
+    last: &[usize; 1024],
+    rising: bool,
+    actual: &mut [u64; 64],
+    effective: &mut [u64; 64],
+) -> Verdict
+    requires { ⌜ Listing (standardAt (now log) h) (h .standards) (now starts) (now times) (now links) (now last) ⌝ }
+    requires { ⌜ (rising ≡ true → Rising (standardAt (now log) h) (h .standards)) ⌝ }
+    requires { ⌜ Summed (upTo (standardAt (now log) h) (h .standards)) (upTo (unitAt (now log) h) 0) 0 (now actual) (now effective) ⌝ }
+    requires { ⌜ h .units ≤ 2000 ⌝ }
+    ensures { λ r. ⌜ AllUnits (h .period) (h .modules) (upTo (standardAt (now (log .entry)) h) (h .standards)) (upTo (unitAt (now (log .entry)) h) (h .units)) r (now (actual .exit)) (now (effective .exit)) ⌝ }
+{
+    let n = h.units;
+    for i in 0..n {
+        let verdict = credit_unit(
+            log,
+            h,
+            i,
+            starts,
+            times,
+            links,
+            last,
+            rising,
+            actual,
+            effective,
+        );
+        if let Verdict::Refused(_) = verdict {
+            return verdict;
+        }
+    }
+    Verdict::Accepted
+}
+
+// Tests the standards, then the unit records, and sums the theoretical times for actual and for effective units of each module. Not a buyer's call: the
+// caller owes that the counts are within their bounds and that the sums start at zero.
+pub fn credit_units(
+    log: &[u8],
+    h: Header,
+    actual: &mut [u64; 64],
+    effective: &mut [u64; 64],
+) -> Verdict
+    requires { ⌜ (h .standards ≤ 512) × (h .units ≤ 2000) ⌝ }
+    requires { ⌜ (now actual ≡ replicate 64 0) × (now effective ≡ replicate 64 0) ⌝ }
+    ensures { λ r. ⌜ Units (h .period) (h .modules) (upTo (standardAt (now (log .entry)) h) (h .standards)) (upTo (unitAt (now (log .entry)) h) (h .units)) r (now (actual .exit)) (now (effective .exit)) ⌝ }
+{
+    let mut starts = [0u64; 512];
+    let mut times = [0u64; 512];
+    let mut links = [0usize; 512];
+    let mut last = [0usize; 1024];
+    let listed = list_standards(log, h, &mut starts, &mut times, &mut links, &mut last);
+    let verdict = listed.verdict;
+    if let Verdict::Refused(_) = verdict {
+        return verdict;
+    }
+    credit_listed(
+        log,
+        h,
+        &starts,
+        &times,
+        &links,
+        &last,
+        listed.rising,
+        actual,
+        effective,
+    )
 }

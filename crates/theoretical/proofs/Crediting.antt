@@ -1,0 +1,157 @@
+-- The unit records tested and credited, one by one.
+-- Assumes nothing.
+use mathlib.Core.Path.{_≡_, refl, sym, ap, _∙_}
+use mathlib.Core.Bool.{Bool, true, false, not, cond}
+use mathlib.Core.Option.{Option, none, some}
+use mathlib.Core.List.{List, [], _∷_, _++_}
+use Prim.Native.Nat.{ℕ, zero, suc, _+_, _*_, _^_, _≤_, _<_}
+use native.Mathlib.Nat.{mul-le-mul, add-assoc, le-trans, le-pred-of-lt}
+use native.Mathlib.Numerals.{add-one}
+use native.Mathlib.Decide.{ℕ-discrete}
+use native.Mathlib.Omega.{arith}
+use lib.Dec.{lit≤}
+use lib.ListN.{length, getD, set, replicate, length-set, length-replicate, getD-replicate}
+use lib.Seq.{getD-set-same, getD-set-other}
+use borrow.Author.Tests.{eq-eqb, ne-eqb}
+use Rattle.records.specs.declared.Standard.{Standard}
+use Rattle.records.specs.declared.UnitRecord.{UnitRecord}
+use Rattle.records.specs.Log.{upTo}
+use Rattle.records.proofs.UpTo.{up-to-more}
+use Rattle.rules.specs.declared.Refusal.{Refusal}
+use Rattle.rules.specs.declared.Verdict.{Verdict}
+use Rattle.rules.specs.declared.Verdict.the-variants.{Accepted, Refused}
+use Rattle.rules.specs.Grounds.{ground, _then_, firstOf}
+use Rattle.rules.specs.Theoretical.{inForce, timeOf, credit, theoreticalTime}
+use Rattle.rules.specs.RecordGrounds.{isNone, unitGround, unitGrounds}
+use Rattle.rules.proofs.FirstGround.{then-assoc, refused-not, first-none, first-more, first-stop, turn-range}
+use Rattle.theoretical.specs.Credits.{Credited, ownGrounds, Summed, Unit, AllUnits}
+
+-- one unit record's credit is below 2 ^ 43
+pub credit-low : (units theoretical : ℕ) → units < 65536 → theoretical < 134217728 → units * theoretical < 2 ^ 43
+credit-low units theoretical h l = omega (arith, mul-le-mul {n₁ = units} {m₁ = theoretical} {n₂ = 65535} {m₂ = 134217727} (omega arith) (omega arith))
+
+-- ---- one more unit record
+
+module _ (f : UnitRecord → ℕ) (ss : List Standard) where
+  total-more : (us : List UnitRecord) (u : UnitRecord) (m : ℕ) → theoreticalTime f ss (us ++ (u ∷ [])) m ≡ theoreticalTime f ss us m + credit f ss m u
+  unfolding theoreticalTime
+  total-more [] u m = omega arith
+  total-more (v ∷ us) u m = rw (total-more us u m) (sym (add-assoc (credit f ss m v) (theoreticalTime f ss us m) (credit f ss m u)))
+
+  credit-own : (u : UnitRecord) (s : Standard) (m : ℕ) → u .«module» ≡ m → inForce ss (u .recipe) (u .time) ≡ some s → credit f ss m u ≡ f u * s .theoretical
+  unfolding credit
+  credit-own u s m e i = rw (eq-eqb (u .«module») m e, i)
+
+  credit-other : (u : UnitRecord) (m : ℕ) → (u .«module» ≡ m → ⊥) → credit f ss m u ≡ 0
+  unfolding credit
+  credit-other u m ne = rw (ne-eqb (u .«module») m ne)
+
+  module _ (us : List UnitRecord) (u : UnitRecord) (s : Standard) (A : List ℕ) (len : length A ≡ 64) (low : u .«module» < 64) (found : inForce ss (u .recipe) (u .time) ≡ some s) where
+    pub sum-more : ((m : ℕ) → m < 64 → getD A m 0 ≡ theoreticalTime f ss us m)
+        → (m : ℕ) → m < 64 → getD (set A (u .«module») (getD A (u .«module») 0 + f u * s .theoretical)) m 0 ≡ theoreticalTime f ss (us ++ (u ∷ [])) m
+    sum-more h m l =
+        rw (total-more us u m)
+        (elim (ℕ-discrete (u .«module») m) [
+          | yes q ↦ rw (credit-own u s m q found, ← q) (getD-set-same A (u .«module») _ 0 (omega arith) ∙ ap (λ (x : ℕ). x + f u * s .theoretical) (h (u .«module») low))
+          | no q ↦ rw (credit-other u m q) (getD-set-other A (u .«module») m _ 0 (λ e. q (sym e)) ∙ h m l ∙ omega arith)
+        ])
+
+    pub low-more : (i : ℕ) → f u < 65536 → s .theoretical < 134217728 → ((m : ℕ) → m < 64 → getD A m 0 ≤ i * 2 ^ 43)
+        → (m : ℕ) → m < 64 → getD (set A (u .«module») (getD A (u .«module») 0 + f u * s .theoretical)) m 0 ≤ (i + 1) * 2 ^ 43
+    low-more i few short h m l =
+        elim (ℕ-discrete (u .«module») m) [
+          | yes q ↦ rw (← q, getD-set-same A (u .«module») (getD A (u .«module») 0 + f u * s .theoretical) 0 (omega arith)) (omega (arith, h (u .«module») low, credit-low (f u) (s .theoretical) few short))
+          | no q ↦ rw (getD-set-other A (u .«module») m (getD A (u .«module») 0 + f u * s .theoretical) 0 (λ e. q (sym e))) (omega (arith, h m l))
+        ]
+
+-- ---- one unit record tested
+
+own-then : (period modules : ℕ) (ss : List Standard) (us : List UnitRecord) (i : ℕ) (u : UnitRecord)
+    → unitGround period modules ss us i u ≡ ownGrounds period modules i u then ground 15 3 i (isNone (inForce ss (u .recipe) (u .time)))
+unfolding unitGround ownGrounds
+own-then period modules ss us i u = sym (simp then-assoc)
+
+module _ (period modules : ℕ) (ss : List Standard) (at : ℕ → UnitRecord) (i : ℕ) (u : UnitRecord) (eu : u ≡ at i) (v : Verdict) (ev : v ≡ ownGrounds period modules i u) where
+  -- refused for itself
+  pub unit-own : (x : Refusal) → v ≡ Refused x → (A E : List ℕ) → Unit period modules ss at i v A E
+  unit-own x e A E =
+      record {
+        answer = e ∙ sym (rw (← eu) (own-then period modules ss (upTo at i) i u ∙ ap (λ (w : Verdict). w then ground 15 3 i (isNone (inForce ss (u .recipe) (u .time)))) (sym ev ∙ e)));
+        summed = λ f. absurd (refused-not (sym e ∙ f));
+      }
+
+  decided : v ≡ Accepted → (o : Option Standard) → inForce ss (u .recipe) (u .time) ≡ o → unitGround period modules ss (upTo at i) i (at i) ≡ ground 15 3 i (isNone o)
+  decided e o h = rw (← eu, ← h) (own-then period modules ss (upTo at i) i u ∙ ap (λ (w : Verdict). w then ground 15 3 i (isNone (inForce ss (u .recipe) (u .time)))) (sym ev ∙ e))
+
+  pub unit-none : v ≡ Accepted → inForce ss (u .recipe) (u .time) ≡ none → (w : Verdict) → w ≡ Refused (record { number = 15; list = 3; place = i }) → (A E : List ℕ) → Unit period modules ss at i w A E
+  unit-none e h w ew A E = record { answer = ew ∙ sym (decided e none h); summed = λ f. absurd (refused-not (sym ew ∙ f)) }
+
+  pub unit-credited : v ≡ Accepted → (s : Standard) → inForce ss (u .recipe) (u .time) ≡ some s → u .«module» < 64 → u .actual < 65536 → u .effective < 65536 → s .theoretical < 134217728
+      → (A E : List ℕ) → Summed ss (upTo at i) i A E
+      → (A′ E′ : List ℕ) → A′ ≡ set A (u .«module») (getD A (u .«module») 0 + u .actual * s .theoretical) → E′ ≡ set E (u .«module») (getD E (u .«module») 0 + u .effective * s .theoretical)
+      → Unit period modules ss at i Accepted A′ E′
+  unit-credited e s h low few few′ short A E sums A′ E′ ea ee =
+      record { answer = sym (decided e (some s) h); summed = λ f. rw (ea, ee, up-to-more at i, ← eu) more }
+    where
+      more : Summed ss (upTo at i ++ (u ∷ [])) (i + 1) (set A (u .«module») (getD A (u .«module») 0 + u .actual * s .theoretical)) (set E (u .«module») (getD E (u .«module») 0 + u .effective * s .theoretical))
+      more =
+          record {
+            sized = (length-set A _ _ ∙ sums .sized .0, length-set E _ _ ∙ sums .sized .1);
+            low = λ m l.
+            (low-more (λ u. u .actual) ss (upTo at i) u s A (sums .sized .0) low h i few short (λ k q. sums .low k q .0) m l,
+            low-more (λ u. u .effective) ss (upTo at i) u s E (sums .sized .1) low h i few′ short (λ k q. sums .low k q .1) m l);
+            credited =
+                record {
+                  actual = sum-more (λ u. u .actual) ss (upTo at i) u s A (sums .sized .0) low h (sums .credited .actual);
+                  effective = sum-more (λ u. u .effective) ss (upTo at i) u s E (sums .sized .1) low h (sums .credited .effective);
+                };
+          }
+
+-- ---- all of them, one by one
+
+abbrev tests : ℕ → ℕ → List Standard → (ℕ → UnitRecord) → ℕ → Verdict
+tests period modules ss at i = unitGround period modules ss (upTo at i) i (at i)
+
+-- the first i were tested, passed and credited
+pub record CreditedTo (period modules : ℕ) (ss : List Standard) (at : ℕ → UnitRecord) (n i : ℕ) (A E : List ℕ) : Type 0 where
+  pub within : i ≤ n
+  pub fine : firstOf (tests period modules ss at) i ≡ Accepted
+  pub summed : Summed ss (upTo at i) i A E
+
+module _ (period modules : ℕ) (ss : List Standard) (at : ℕ → UnitRecord) (n : ℕ) where
+  pub credited-none : (A E : List ℕ) → Summed ss (upTo at 0) 0 A E → CreditedTo period modules ss at n 0 A E
+  credited-none A E s = record { within = omega arith; fine = first-none (tests period modules ss at); summed = s }
+
+  pub credited-step : (i : ℕ) (A E : List ℕ) → i < n → CreditedTo period modules ss at n i A E → (v : Verdict) (A′ E′ : List ℕ) → Unit period modules ss at i v A′ E′ → v ≡ Accepted
+      → CreditedTo period modules ss at n (i + 1) A′ E′
+  credited-step i A E h c v A′ E′ u e =
+      record { within = omega arith; fine = first-more (tests period modules ss at) i (c .fine) (sym (u .answer) ∙ e); summed = u .summed e }
+
+  pub credited-stop : (i : ℕ) (A E : List ℕ) → i < n → CreditedTo period modules ss at n i A E → (v : Verdict) (A′ E′ : List ℕ) → Unit period modules ss at i v A′ E′ → (x : Refusal) → v ≡ Refused x
+      → AllUnits period modules ss (upTo at n) v A′ E′
+  unfolding unitGrounds
+  credited-stop i A E h c v A′ E′ u x e =
+      record {
+        answer = e ∙ sym (turn-range (unitGround period modules ss) at n ∙ first-stop (tests period modules ss at) n i x h (c .fine) (sym (u .answer) ∙ e));
+        credited = λ f. absurd (refused-not (sym e ∙ f));
+      }
+
+  pub credited-all : (i : ℕ) (A E : List ℕ) → n ≤ i → CreditedTo period modules ss at n i A E → AllUnits period modules ss (upTo at n) Accepted A E
+  unfolding unitGrounds
+  credited-all i A E h c =
+      let q : i ≡ n = omega (arith, c .within) in
+      record { answer = sym (turn-range (unitGround period modules ss) at n ∙ rw q at (c .fine)); credited = λ e. rw q at (c .summed .credited) }
+
+-- sums that start at zero
+pub summed-none : (ss : List Standard) (at : ℕ → UnitRecord) (A E : List ℕ) → A ≡ replicate 64 0 → E ≡ replicate 64 0 → Summed ss (upTo at 0) 0 A E
+unfolding upTo theoreticalTime
+summed-none ss at A E ea ee =
+    rw (ea, ee)
+    (record {
+      sized = (length-replicate {A = ℕ} 64 0, length-replicate {A = ℕ} 64 0);
+      low = λ m l. (zero-low m l, zero-low m l);
+      credited = record { actual = λ m l. getD-replicate {A = ℕ} 64 m 0 0 l; effective = λ m l. getD-replicate {A = ℕ} 64 m 0 0 l };
+    })
+  where
+    zero-low : (m : ℕ) → m < 64 → getD (replicate 64 0) m 0 ≤ 0 * 2 ^ 43
+    zero-low m l = rw (getD-replicate {A = ℕ} 64 m 0 0 l) (omega arith)
