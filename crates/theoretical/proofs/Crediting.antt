@@ -97,9 +97,10 @@ module _ (period modules : ℕ) (ss : List Standard) (at : ℕ → UnitRecord) (
       more =
           record {
             sized = (length-set A _ _ ∙ sums .sized .0, length-set E _ _ ∙ sums .sized .1);
-            low = λ m l.
-            (low-more (λ u. u .actual) ss (upTo at i) u s A (sums .sized .0) low h i few short (λ k q. sums .low k q .0) m l,
-            low-more (λ u. u .effective) ss (upTo at i) u s E (sums .sized .1) low h i few′ short (λ k q. sums .low k q .1) m l);
+            low = λ m l. (
+              low-more (λ u. u .actual) ss (upTo at i) u s A (sums .sized .0) low h i few short (λ k q. sums .low k q .0) m l,
+              low-more (λ u. u .effective) ss (upTo at i) u s E (sums .sized .1) low h i few′ short (λ k q. sums .low k q .1) m l,
+            );
             credited =
                 record {
                   actual = sum-more (λ u. u .actual) ss (upTo at i) u s A (sums .sized .0) low h (sums .credited .actual);

@@ -8,7 +8,7 @@ use Prim.Native.Nat.{ℕ, zero, suc, pred, _+_, _≤_, _<_}
 use native.Mathlib.Numerals.{add-one}
 use native.Mathlib.Decide.{ℕ-discrete, decLt}
 use native.Mathlib.Omega.{arith}
-use lib.ListN.{length, getD, set, length-set}
+use lib.ListN.{length, getD, set, replicate, length-set, length-replicate, getD-replicate}
 use lib.Seq.{getD-set-same, getD-set-other}
 use borrow.Author.Tests.{le-leb, lt-leb, eq-eqb, ne-eqb}
 use Rattle.records.specs.declared.Standard.{Standard}
@@ -129,6 +129,18 @@ module _ (at : ℕ → Standard) (i : ℕ) (S T B L : List ℕ) (listing : Listi
         times = kept T (λ j. at j .theoretical) (listing .sized .1) (listing .times);
         lasts = lasts-more;
       }
+
+-- empty arrays hold no standard
+pub listing-none : (at : ℕ → Standard) (S T B L : List ℕ) → S ≡ replicate 512 0 → T ≡ replicate 512 0 → B ≡ replicate 512 0 → L ≡ replicate 1024 0 → Listing at 0 S T B L
+unfolding lastOf
+listing-none at S T B L es et eb el =
+    rw (es, et, eb, el)
+    (record {
+      sized = (length-replicate {A = ℕ} 512 0, length-replicate {A = ℕ} 512 0, length-replicate {A = ℕ} 512 0, length-replicate {A = ℕ} 1024 0);
+      chained = record { few = omega arith; starts = λ i h. absurd (omega arith); links = λ i h. absurd (omega arith) };
+      times = λ i h. absurd (omega arith);
+      lasts = λ recipe h. getD-replicate {A = ℕ} 1024 recipe 0 0 h;
+    })
 
 -- ---- all of them, one by one
 
