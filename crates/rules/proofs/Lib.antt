@@ -1,2 +1,3 @@
 pub mod FirstGround
 pub mod InForce
+pub mod KnownRefusals

@@ -11,3 +11,13 @@ pub enum Verdict {
     Accepted,
     Refused(Refusal),
 }
+
+// The six state times of a module or of the tool, in ms.
+pub struct StateTimes {
+    pub productive: u64,
+    pub standby: u64,
+    pub engineering: u64,
+    pub scheduled: u64,
+    pub unscheduled: u64,
+    pub nonscheduled: u64,
+}

@@ -1,0 +1,74 @@
+-- The six state times and the five quantities of E79, of a module and of the tool, which sums those of its modules.
+-- Definitions only.
+use Prim.Native.Nat.{ℕ, zero, suc, _+_}
+use Rattle.records.specs.Log.{Log}
+use Rattle.e79.specs.declared.Quantities.{Quantities}
+use Rattle.rules.specs.declared.StateTimes.{StateTimes}
+use Rattle.rules.specs.Time.{stateTime}
+use Rattle.rules.specs.Theoretical.{theoreticalTime}
+
+-- a quantity summed over the modules 0, 1, .. , n - 1
+unfoldable pub sumBelow : (ℕ → ℕ) → ℕ → ℕ
+sumBelow q zero = 0
+sumBelow q (suc n) = sumBelow q n + q n
+
+-- module m's time in state k
+unfoldable pub timeIn : Log → ℕ → ℕ → ℕ
+unfolding stateTime
+timeIn l k m = stateTime (l .states) (l .period) m k
+
+-- uptime: productive, standby and engineering
+unfoldable pub uptime : Log → ℕ → ℕ
+unfolding timeIn
+uptime l m = timeIn l 0 m + timeIn l 1 m + timeIn l 2 m
+
+-- theoretical time for actual and for effective units
+unfoldable pub actualTime : Log → ℕ → ℕ
+unfolding theoreticalTime
+actualTime l m = theoreticalTime (λ u. u .actual) (l .standards) (l .units) m
+
+unfoldable pub effectiveTime : Log → ℕ → ℕ
+unfolding theoreticalTime
+effectiveTime l m = theoreticalTime (λ u. u .effective) (l .standards) (l .units) m
+
+abbrev pub moduleTimes : Log → ℕ → StateTimes
+moduleTimes l m =
+    record {
+      productive = timeIn l 0 m;
+      standby = timeIn l 1 m;
+      engineering = timeIn l 2 m;
+      scheduled = timeIn l 3 m;
+      unscheduled = timeIn l 4 m;
+      nonscheduled = timeIn l 5 m;
+    }
+
+abbrev pub toolTimes : Log → StateTimes
+toolTimes l =
+    record {
+      productive = sumBelow (timeIn l 0) (l .modules);
+      standby = sumBelow (timeIn l 1) (l .modules);
+      engineering = sumBelow (timeIn l 2) (l .modules);
+      scheduled = sumBelow (timeIn l 3) (l .modules);
+      unscheduled = sumBelow (timeIn l 4) (l .modules);
+      nonscheduled = sumBelow (timeIn l 5) (l .modules);
+    }
+
+abbrev pub ofModule : Log → ℕ → Quantities
+ofModule l m =
+    record {
+      total = l .period;
+      uptime = uptime l m;
+      production = timeIn l 0 m;
+      actual = actualTime l m;
+      effective = effectiveTime l m;
+    }
+
+abbrev pub ofTool : Log → Quantities
+ofTool l =
+    record {
+      total = sumBelow (λ m. l .period) (l .modules);
+      uptime = sumBelow (uptime l) (l .modules);
+      production = sumBelow (timeIn l 0) (l .modules);
+      actual = sumBelow (actualTime l) (l .modules);
+      effective = sumBelow (effectiveTime l) (l .modules);
+    }
