@@ -1,0 +1,7 @@
+pub mod Table
+pub mod Count
+pub mod OneMore
+pub mod SixTimes
+pub mod Sums
+pub mod Sound
+pub mod Pass
