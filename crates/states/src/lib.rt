@@ -7,7 +7,7 @@ ghost use lib.ListN.{replicate};
 ghost use Rattle.records.specs.declared.StateRecord.{StateRecord};
 ghost use Rattle.records.specs.Log.{stateAt, upTo};
 ghost use Rattle.rules.specs.Grounds.{ground};
-ghost use Rattle.rules.specs.Time.{stateOf};
+ghost use Rattle.rules.specs.Time.{states, stateOf};
 ghost use Rattle.rules.specs.RecordGrounds.{lastTime, ownTime, stateGround};
 ghost use Rattle.states.specs.Tally.{isUptime, Tallied};
 ghost use Rattle.states.specs.Held.{fromOf, nextOf, totalsWith, uptimesWith, Room, Held, Stepped, Scanned};
@@ -16,58 +16,80 @@ use records::StateRecord;
 use rules::Refusal;
 use rules::Verdict;
 
-// The state of each sub-state code: 0 productive, 1 standby, 2 engineering, 3 scheduled down, 4 unscheduled down, 5 nonscheduled.
-const STATES: [usize; 24] = [
-    0,
-    0,
-    0,
-    0,
-    0,
-    0,
-    1,
-    1,
-    1,
-    1,
-    1,
-    1,
-    2,
-    2,
-    3,
-    3,
-    3,
-    3,
-    4,
-    4,
-    4,
-    4,
-    5,
-    5,
+// The six states.
+const PRODUCTIVE: u8 = 0;
+
+const STANDBY: u8 = 1;
+
+const ENGINEERING: u8 = 2;
+
+const SCHEDULED_DOWN: u8 = 3;
+
+const UNSCHEDULED_DOWN: u8 = 4;
+
+const NONSCHEDULED: u8 = 5;
+
+// The state of each sub-state code.
+const STATES: [u8; 24] = [
+    PRODUCTIVE,
+    PRODUCTIVE,
+    PRODUCTIVE,
+    PRODUCTIVE,
+    PRODUCTIVE,
+    PRODUCTIVE,
+    STANDBY,
+    STANDBY,
+    STANDBY,
+    STANDBY,
+    STANDBY,
+    STANDBY,
+    ENGINEERING,
+    ENGINEERING,
+    SCHEDULED_DOWN,
+    SCHEDULED_DOWN,
+    SCHEDULED_DOWN,
+    SCHEDULED_DOWN,
+    UNSCHEDULED_DOWN,
+    UNSCHEDULED_DOWN,
+    UNSCHEDULED_DOWN,
+    UNSCHEDULED_DOWN,
+    NONSCHEDULED,
+    NONSCHEDULED,
 ];
 
-fn state_of(code: usize) -> usize
-    requires { ⌜ code < 24 ⌝ }
+// The state of a code. The table is lent, since a constant that is indexed is laid out anew at each use: that took longer than the rest of the pass.
+fn state_of(table: &[u8; 24], code: usize) -> usize
+    requires { ⌜ (now table ≡ states) × (code < 24) ⌝ }
     ensures { λ r. ⌜ (r ≡ stateOf code) × (r < 6) ⌝ }
 {
-    STATES[code]
+    table[code] as usize
 }
 
 // Whether time in the sub-state of a code is uptime: productive, standby or engineering.
-fn is_uptime(code: usize) -> bool
-    requires { ⌜ code < 24 ⌝ }
+fn is_uptime(table: &[u8; 24], code: usize) -> bool
+    requires { ⌜ (now table ≡ states) × (code < 24) ⌝ }
     ensures { λ r. ⌜ r ≡ isUptime code ⌝ }
 {
-    state_of(code) < 3
+    state_of(table, code) < 3
 }
 
 // Adds a stretch of `length` ms in the sub-state of a code to module m's total of that state, and to its uptime where it is that.
-fn add_stretch(totals: &mut [u64; 384], uptime: &mut [u64; 64], m: usize, code: usize, length: u64)
+fn add_stretch(
+    table: &[u8; 24],
+    totals: &mut [u64; 384],
+    uptime: &mut [u64; 64],
+    m: usize,
+    code: usize,
+    length: u64,
+)
+    requires { ⌜ now table ≡ states ⌝ }
     requires { ⌜ Room (now totals) (now uptime) m code length ⌝ }
     ensures { λ _. ⌜ now (totals .exit) ≡ totalsWith (now (totals .entry)) m code length ⌝ }
     ensures { λ _. ⌜ now (uptime .exit) ≡ uptimesWith (now (uptime .entry)) m code length ⌝ }
 {
-    let at = 6 * m + state_of(code);
+    let at = 6 * m + state_of(table, code);
     totals[at] += length;
-    if is_uptime(code) {
+    if is_uptime(table, code) {
         uptime[m] += length;
     }
 }
@@ -115,6 +137,7 @@ fn test(r: StateRecord, i: usize, h: Header, from: u64, own: u64) -> Verdict
 
 // Tests record i. Where it passes, its module's open stretch ends and the next begins.
 fn tally_record(
+    table: &[u8; 24],
     log: &[u8],
     h: Header,
     i: usize,
@@ -125,6 +148,7 @@ fn tally_record(
     codes: &mut [usize; 64],
     opened: &mut [bool; 64],
 ) -> Verdict
+    requires { ⌜ now table ≡ states ⌝ }
     requires { ⌜ now from ≡ fromOf (lastTime (upTo (stateAt (now log)) i)) ⌝ }
     requires { ⌜ Held (upTo (stateAt (now log)) i) (h .period) (now totals) (now uptime) (now next) (now codes) (now opened) ⌝ }
     ensures { λ r. ⌜ Stepped (stateAt (now (log .entry))) (h .period) (h .modules) i r (now (from .exit)) (now (totals .exit)) (now (uptime .exit)) (now (next .exit)) (now (codes .exit)) (now (opened .exit)) ⌝ }
@@ -140,7 +164,8 @@ fn tally_record(
     if own == 0 {
         opened[m] = t == 0;
     } else {
-        add_stretch(totals, uptime, m, codes[m], t - (own - 1));
+        let code = codes[m];
+        add_stretch(table, totals, uptime, m, code, t - (own - 1));
     }
     next[m] = t + 1;
     codes[m] = r.code;
@@ -150,6 +175,7 @@ fn tally_record(
 
 // All records, one by one.
 fn tally_records(
+    table: &[u8; 24],
     log: &[u8],
     h: Header,
     totals: &mut [u64; 384],
@@ -158,13 +184,25 @@ fn tally_records(
     codes: &mut [usize; 64],
     opened: &mut [bool; 64],
 ) -> Verdict
+    requires { ⌜ now table ≡ states ⌝ }
     requires { ⌜ Held (upTo (stateAt (now log)) 0) (h .period) (now totals) (now uptime) (now next) (now codes) (now opened) ⌝ }
     ensures { λ r. ⌜ Scanned (stateAt (now (log .entry))) (h .period) (h .modules) (h .states) r (now (totals .exit)) (now (uptime .exit)) (now (next .exit)) (now (codes .exit)) (now (opened .exit)) ⌝ }
 {
     let states = h.states;
     let mut from = 0;
     for i in 0..states {
-        let v = tally_record(log, h, i, &mut from, totals, uptime, next, codes, opened);
+        let v = tally_record(
+            table,
+            log,
+            h,
+            i,
+            &mut from,
+            totals,
+            uptime,
+            next,
+            codes,
+            opened,
+        );
         if let Verdict::Refused(f) = v {
             return Verdict::Refused(f);
         }
@@ -184,10 +222,20 @@ pub fn tally_states(
     requires { ⌜ (now totals ≡ replicate 384 0) × (now uptime ≡ replicate 64 0) ⌝ }
     ensures { λ r. ⌜ Tallied (upTo (stateAt (now (log .entry))) (h .states)) (h .period) (h .modules) r (now (totals .exit)) (now (uptime .exit)) ⌝ }
 {
+    let table = STATES;
     let mut next = [0u64; 64];
     let mut codes = [0usize; 64];
     let mut opened = [false; 64];
-    let v = tally_records(log, h, totals, uptime, &mut next, &mut codes, &mut opened);
+    let v = tally_records(
+        &table,
+        log,
+        h,
+        totals,
+        uptime,
+        &mut next,
+        &mut codes,
+        &mut opened,
+    );
     if let Verdict::Refused(f) = v {
         return Verdict::Refused(f);
     }
@@ -200,7 +248,14 @@ pub fn tally_states(
                 place: m,
             });
         }
-        add_stretch(totals, uptime, m, codes[m], h.period - (next[m] - 1));
+        add_stretch(
+            &table,
+            totals,
+            uptime,
+            m,
+            codes[m],
+            h.period - (next[m] - 1),
+        );
     }
     Verdict::Accepted
 }

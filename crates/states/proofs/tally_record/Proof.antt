@@ -38,7 +38,7 @@ tested : (c : tie.After-test)
 tested c =
     let q = c .before .before .before in
     let s = q .before .before in
-    c .test .ensures (earlier s) (s .pre .0) (next-own (s .pre .1 .modules .each _ (module-below q) .stretch))
+    c .test .ensures (earlier s) (s .pre .1 .0) (next-own (s .pre .1 .1 .modules .each _ (module-below q) .stretch))
     ∙ ap (stateGround (s .args .h .period) (s .args .h .modules) (earlier s) (s .args .i)) (q .state-record .ensures)
 
 is-sound : (c : tie.After-enum-told)
@@ -60,13 +60,13 @@ sub-add-stretch-2 : tie.Need-sub-add-stretch-2
 sub-add-stretch-2 c =
     let a = c .before .before .before .before in
     let q = a .before .before .before .before .before in
-    since _ _ (is-sound a) (q .before .before .pre .1) (module-below q) (c .before .before .before .if1 .left)
+    since _ _ (is-sound a) (q .before .before .pre .1 .1) (module-below q) (c .before .before .before .if1 .left)
 
 add-stretch-requires : tie.Need-add-stretch-requires
 add-stretch-requires c κs =
     let a = c .before .before .before .before in
     let q = a .before .before .before .before .before in
-    has-room _ _ (is-sound a) (q .before .before .pre .1) (module-below q) (c .before .before .before .if1 .left) (omega (arith, time-below q))
+    (q .before .before .pre .0, has-room _ _ (is-sound a) (q .before .before .pre .1 .1) (module-below q) (c .before .before .before .if1 .left) (omega (arith, time-below q)))
 
 returns-2 : tie.Need-returns-2
 returns-2 c =
@@ -78,8 +78,8 @@ returns-2 c =
       from = λ _. rw (up-to-more (stateAt (s .args .log .now)) (s .args .i), ← q .state-record .ensures, last-more (earlier s) (q .state-record .result));
       held = λ _. rw (up-to-more (stateAt (s .args .log .now)) (s .args .i), ← q .state-record .ensures)
           (⊎-elim
-          (λ w. rw (w .1, w .2, w .3) (held-first _ _ (is-sound a) (s .pre .1) (module-below q) (w .0 .taken)))
-          (λ w. rw (w .5, w .6, w .7, w .4 .ensures .0, w .4 .ensures .1) (held-next _ _ (is-sound a) (s .pre .1) (module-below q) (w .0 .left)))
+          (λ w. rw (w .1, w .2, w .3) (held-first _ _ (is-sound a) (s .pre .1 .1) (module-below q) (w .0 .taken)))
+          (λ w. rw (w .5, w .6, w .7, w .4 .ensures .0, w .4 .ensures .1) (held-next _ _ (is-sound a) (s .pre .1 .1) (module-below q) (w .0 .left)))
           (c .if1 .came));
     }
 
@@ -95,8 +95,8 @@ tally-record-spec =
     returns
     (λ c. search needs)
     (λ c. module-below (c .before .before .before .before .before .before))
-    (λ c. omega (arith, module-below (c .before .before .before .before .before .before .before .before)))
-    (λ c. module-below (c .before .before .before .before .before .before .before .before))
+    (λ c. omega (arith, module-below (c .before .before .before .before .before .before)))
+    (λ c. module-below (c .before .before .before .before .before .before))
     (λ c. search needs)
     sub-add-stretch-2
     add-stretch-requires

@@ -20,7 +20,7 @@ abbrev groundAt : ℕ → ℕ → (ℕ → StateRecord) → ℕ → Verdict
 groundAt period modules at i = stateGround period modules (upTo at i) i (at i)
 
 abbrev Inv-loop : tie.InvT-loop
-Inv-loop log h totals₀ uptime₀ next₀ codes₀ opened₀ states from₀ i₀ totals uptime next codes opened from i =
+Inv-loop table log h totals₀ uptime₀ next₀ codes₀ opened₀ states from₀ i₀ totals uptime next codes opened from i =
     (i ≤ states)
     × (states ≡ h .states)
     × (firstOf (groundAt (h .period) (h .modules) (stateAt log)) i ≡ Accepted)
@@ -28,15 +28,17 @@ Inv-loop log h totals₀ uptime₀ next₀ codes₀ opened₀ states from₀ i�
     × Held (upTo (stateAt log) i) (h .period) totals uptime next codes opened
 
 abbrev μ-loop : tie.MeasureT-loop
-μ-loop log h totals₀ uptime₀ next₀ codes₀ opened₀ states from₀ i₀ totals uptime next codes opened from i =
+μ-loop table log h totals₀ uptime₀ next₀ codes₀ opened₀ states from₀ i₀ totals uptime next codes opened from i =
     states - i
 
 loop-holds : tie.Need-loop-holds Inv-loop μ-loop
 unfolding upTo lastTime
-loop-holds c = (search needs, refl, first-none _, refl, c .before .pre)
+loop-holds c = (search needs, refl, first-none _, refl, c .before .pre .1)
 
 tally-record-requires : tie.Need-tally-record-requires Inv-loop μ-loop
-tally-record-requires c κs = search needs
+tally-record-requires c κs =
+    let l = c .before .before .before .before .before .before .before in
+    (l .before .before .pre .0, (l .loop .inv .3, l .loop .inv .4))
 
 enum-known-v : tie.Need-enum-known-v Inv-loop μ-loop
 enum-known-v c = search needs

@@ -6,6 +6,7 @@ use mathlib.Core.Path.{_≡_, refl, sym, ap, _∙_}
 use Prim.Native.Nat.{_-_, _≤_, _<_}
 use native.Mathlib.Omega.{arith}
 use Rattle.records.specs.Log.{stateAt, upTo}
+use Rattle.rules.specs.Time.{states}
 use Rattle.rules.specs.RecordGrounds.{stateGrounds}
 use Rattle.rules.proofs.FirstGround.{refused-not}
 use Rattle.states.proofs.Pass.{held-none, Finishing, finish-start, finish-stop, finish-since, finish-room, finish-more, finish-all}
@@ -13,16 +14,16 @@ use Rattle.states.proofs.tally_states.Statement.{statement}
 use Rattle.states.proofs.tally_states.Tie as tie
 
 abbrev Inv-loop : tie.InvT-loop
-Inv-loop log h totals₀ uptime₀ next codes opened modules m₀ totals uptime m =
-    (m ≤ modules) × Finishing (upTo (stateAt log) (h .states)) (h .period) (h .modules) m totals uptime next codes opened
+Inv-loop log h totals₀ uptime₀ table next codes opened modules m₀ totals uptime m =
+    (m ≤ modules) × (table ≡ states) × Finishing (upTo (stateAt log) (h .states)) (h .period) (h .modules) m totals uptime next codes opened
 
 abbrev μ-loop : tie.MeasureT-loop
-μ-loop log h totals₀ uptime₀ next codes opened modules m₀ totals uptime m = modules - m
+μ-loop log h totals₀ uptime₀ table next codes opened modules m₀ totals uptime m = modules - m
 
 tally-records-requires : tie.Need-tally-records-requires Inv-loop μ-loop
 tally-records-requires c κs =
-    let s = c .before .before .before .before .before .before in
-    rw (s .pre .1 .0, s .pre .1 .1) (held-none (stateAt (s .args .log .now)) (s .args .h .period))
+    let s = c .before .before .before .before .before .before .before in
+    (refl, rw (s .pre .1 .0, s .pre .1 .1) (held-none (stateAt (s .args .log .now)) (s .args .h .period)))
 
 enum-known-v : tie.Need-enum-known-v Inv-loop μ-loop
 enum-known-v c = search needs
@@ -44,7 +45,7 @@ loop-holds : tie.Need-loop-holds Inv-loop μ-loop
 loop-holds c =
     let t = c .before .before in
     let e = c .enum-told .given .1 in
-    (search needs, finish-start (sym (t .tally-records .ensures .answer) ∙ e) (t .tally-records .ensures .held e))
+    (search needs, refl, finish-start (sym (t .tally-records .ensures .answer) ∙ e) (t .tally-records .ensures .held e))
 
 -- the module of this turn
 below : (c : tie.In-loop Inv-loop μ-loop) → c .before .loop .m < 64
@@ -57,7 +58,7 @@ returns-2 : tie.Need-returns-2 Inv-loop μ-loop
 returns-2 c =
     let l = c .before .before in
     record {
-      answer = finish-stop (l .loop .inv .1) (below (c .before)) (c .before .loop-test .taken) (not-true _ (c .if1 .taken));
+      answer = finish-stop (l .loop .inv .2) (below (c .before)) (c .before .loop-test .taken) (not-true _ (c .if1 .taken));
       totals = λ e. absurd (refused-not e);
       uptime = λ e. absurd (refused-not e);
     }
@@ -76,18 +77,18 @@ array-read-add-stretch-2 c = search needs
 
 sub-add-stretch : tie.Need-sub-add-stretch Inv-loop μ-loop
 sub-add-stretch c =
-    let a = c .before .before in
-    finish-since (a .before .before .loop .inv .1) (below (a .before)) (not-false _ (a .if1 .left)) .0
+    let a = c .before .before .before in
+    finish-since (a .before .before .loop .inv .2) (below (a .before)) (not-false _ (a .if1 .left)) .0
 
 sub-add-stretch-2 : tie.Need-sub-add-stretch-2 Inv-loop μ-loop
 sub-add-stretch-2 c =
-    let a = c .before .before .before in
-    finish-since (a .before .before .loop .inv .1) (below (a .before)) (not-false _ (a .if1 .left)) .1
+    let a = c .before .before .before .before in
+    finish-since (a .before .before .loop .inv .2) (below (a .before)) (not-false _ (a .if1 .left)) .1
 
 add-stretch-requires : tie.Need-add-stretch-requires Inv-loop μ-loop
 add-stretch-requires c κs =
-    let a = c .before .before .before in
-    finish-room (a .before .before .loop .inv .1) (below (a .before)) (not-false _ (a .if1 .left)) (omega (arith, c .struct-known .given))
+    let a = c .before .before .before .before in
+    (a .before .before .loop .inv .1, finish-room (a .before .before .loop .inv .2) (below (a .before)) (not-false _ (a .if1 .left)) (omega (arith, c .struct-known .given)))
 
 add-m : tie.Need-add-m Inv-loop μ-loop
 add-m c = search needs
@@ -97,14 +98,14 @@ loop-less c = search needs
 
 loop-again : tie.Need-loop-again Inv-loop μ-loop
 loop-again c =
-    let a = c .before .before .before .before in
-    (omega arith, rw (c .add-stretch .ensures .0, c .add-stretch .ensures .1) (finish-more (a .before .before .loop .inv .1) (below (a .before)) (not-false _ (a .if1 .left))))
+    let a = c .before .before .before .before .before in
+    (omega arith, a .before .before .loop .inv .1, rw (c .add-stretch .ensures .0, c .add-stretch .ensures .1) (finish-more (a .before .before .loop .inv .2) (below (a .before)) (not-false _ (a .if1 .left))))
 
 returns-3 : tie.Need-returns-3 Inv-loop μ-loop
 returns-3 c =
     let l = c .before in
-    let e : l .loop .m ≡ l .before .before .before .before .before .before .before .before .before .before .args .h .modules = omega arith in
-    finish-all (rw e at (l .loop .inv .1))
+    let e : l .loop .m ≡ l .before .before .before .before .before .before .before .before .before .before .before .args .h .modules = omega arith in
+    finish-all (rw e at (l .loop .inv .2))
 
 pub tally-states-spec : {M : Type 1} → statement M
 tally-states-spec =
