@@ -1,0 +1,114 @@
+-- A state time is the sum of its stretches, from a record of the module up to its next. The sum computes at once, where the count takes a step for each millisecond.
+-- Assumes nothing.
+use mathlib.Core.Path.{_≡_, refl, ap, _∙_}
+use mathlib.Core.Bool.{Bool, true, false, cond, _&&_}
+use mathlib.Core.Option.{Option, none, some}
+use mathlib.Core.List.{List, [], _∷_, foldl}
+use Prim.Native.Nat.{ℕ, _+_, _-_, _≤_, _<_}
+use native.Mathlib.Omega.{arith}
+use lib.Dec.{T, eqb, leb, leb→le}
+use borrow.Author.Tests.{le-leb, lt-leb}
+use Rattle.records.specs.declared.StateRecord.{StateRecord}
+use Rattle.records.specs.Log.{upTo}
+use Rattle.rules.specs.Time.{stateOf, keep, codeAt, isState, count, stateTime}
+use Rattle.states.proofs.Table.{both-left, both-right}
+use Rattle.states.proofs.Count.{count-stretch, count-alike}
+
+-- the stretches of module m in state k, from u on, where its code is c at u
+abbrev pub stretches : List StateRecord → ℕ → ℕ → ℕ → Option ℕ → ℕ → ℕ
+stretches [] period m k c u = cond (isState k c) (period - u) 0
+stretches (r ∷ rs) period m k c u =
+    cond (eqb (r .«module») m) (cond (isState k c) (r .time - u) 0) 0
+    + stretches rs period m k (cond (eqb (r .«module») m) (some (r .code)) c) (cond (eqb (r .«module») m) (r .time) u)
+
+-- module m's times do not fall, from u on, nor pass the period
+abbrev pub rises : List StateRecord → ℕ → ℕ → ℕ → Bool
+rises [] period m u = leb u period
+rises (r ∷ rs) period m u = cond (eqb (r .«module») m) (leb u (r .time)) true && rises rs period m (cond (eqb (r .«module») m) (r .time) u)
+
+module _ (period m : ℕ) where
+  starts : (rs : List StateRecord) (u v : ℕ) → T (leb u v && rises rs period m v) → u ≤ v
+  starts rs u v h = leb→le u v (both-left (leb u v) (rises rs period m v) h)
+
+  goes-on : (rs : List StateRecord) (u v : ℕ) → T (leb u v && rises rs period m v) → T (rises rs period m v)
+  goes-on rs u v h = both-right (leb u v) (rises rs period m v) h
+
+  within : (rs : List StateRecord) (u : ℕ) → T (rises rs period m u) → u ≤ period
+  within [] u h = leb→le u period h
+  within (r ∷ rs) u h = go (eqb (r .«module») m) h (within rs)
+    where
+      go : (b : Bool) → T (cond b (leb u (r .time)) true && rises rs period m (cond b (r .time) u)) → ((u : ℕ) → T (rises rs period m u) → u ≤ period) → u ≤ period
+      go true h ih = omega (arith, starts rs u (r .time) h, ih (r .time) (goes-on rs u (r .time) h))
+      go false h ih = ih u h
+
+  -- before u no record of m has been
+  before : (rs : List StateRecord) (c : Option ℕ) (u t : ℕ) → T (rises rs period m u) → t < u → foldl (keep m t) c rs ≡ c
+  before [] c u t h l = refl
+  before (r ∷ rs) c u t h l = go (eqb (r .«module») m) h (before rs c)
+    where
+      go : (b : Bool) → T (cond b (leb u (r .time)) true && rises rs period m (cond b (r .time) u))
+          → ((u t : ℕ) → T (rises rs period m u) → t < u → foldl (keep m t) c rs ≡ c)
+          → foldl (keep m t) (cond (b && leb (r .time) t) (some (r .code)) c) rs ≡ c
+      go true h ih =
+          let a : u ≤ r .time = starts rs u (r .time) h in
+          rw (lt-leb (r .time) t (omega arith)) (ih (r .time) t (goes-on rs u (r .time) h) (omega arith))
+      go false h ih = ih u t h l
+
+  -- whether module m is in state k at t, in the records rs that follow the code c
+  abbrev test : ℕ → List StateRecord → Option ℕ → ℕ → Bool
+  test k rs c t = isState k (foldl (keep m t) c rs)
+
+  -- the count up to the period is the count up to u and the stretches from there
+  from : (k : ℕ) (rs : List StateRecord) (c : Option ℕ) (u : ℕ) → T (rises rs period m u)
+      → count (test k rs c) period ≡ count (test k rs c) u + stretches rs period m k c u
+  from k [] c u h = count-stretch (λ t. isState k c) (isState k c) u period (leb→le u period h) (λ t a b. refl)
+  from k (r ∷ rs) c u h = go (eqb (r .«module») m) h (from k rs)
+    where
+      next : Bool → ℕ → Bool
+      next b t = isState k (foldl (keep m t) (cond (b && leb (r .time) t) (some (r .code)) c) rs)
+
+      go : (b : Bool) → T (cond b (leb u (r .time)) true && rises rs period m (cond b (r .time) u))
+          → ((c : Option ℕ) (u : ℕ) → T (rises rs period m u) → count (test k rs c) period ≡ count (test k rs c) u + stretches rs period m k c u)
+          → count (next b) period ≡ count (next b) u + (cond b (cond (isState k c) (r .time - u) 0) 0 + stretches rs period m k (cond b (some (r .code)) c) (cond b (r .time) u))
+      go true h ih =
+          let v = r .time in
+          let g : T (rises rs period m v) = goes-on rs u v h in
+          let first : count (next true) v ≡ count (next true) u + cond (isState k c) (v - u) 0
+          = count-stretch (next true) (isState k c) u v (starts rs u v h)
+          (λ t x y. rw (lt-leb v t y) (ap (isState k) (before rs c v t g y))) in
+          let rest : count (next true) period + count (test k rs (some (r .code))) v ≡ count (test k rs (some (r .code))) period + count (next true) v
+          = count-alike (next true) (test k rs (some (r .code))) v period (within rs v g) (λ t x. rw (le-leb v t x)) in
+          omega (arith, first, rest, ih (some (r .code)) v g)
+      go false h ih = omega (arith, ih c u h)
+
+  pub by-stretches : (rs : List StateRecord) → T (rises rs period m 0) → (k : ℕ) → stateTime rs period m k ≡ stretches rs period m k none 0
+  unfolding stateTime codeAt count
+  by-stretches rs h k = omega (arith, from k rs none 0 h)
+
+-- the six times of module m
+abbrev pub times : List StateRecord → ℕ → ℕ → List ℕ
+times rs period m = upTo (stateTime rs period m) 6
+
+pub times-by-stretches : (rs : List StateRecord) (period m : ℕ) → T (rises rs period m 0) → times rs period m ≡ upTo (λ k. stretches rs period m k none 0) 6
+unfolding upTo
+times-by-stretches rs period m h = simp (by-stretches period m rs h)
+
+-- ---- document 01's case W
+
+abbrev at : ℕ → ℕ → ℕ → StateRecord
+at m code time = record { «module» = m; code = code; time = time; spare = 0 }
+
+pub caseW : List StateRecord
+caseW = at 0 0 0 ∷ at 1 0 0 ∷ at 2 0 0 ∷ at 2 7 288000000 ∷ at 1 7 532800000 ∷ at 0 7 540000000 ∷ at 1 18 568800000 ∷ at 0 18 586800000 ∷ []
+
+pub case-w :
+    (times caseW 604800000 0 ≡ 540000000 ∷ 46800000 ∷ 0 ∷ 0 ∷ 18000000 ∷ 0 ∷ [])
+    × (times caseW 604800000 1 ≡ 532800000 ∷ 36000000 ∷ 0 ∷ 0 ∷ 36000000 ∷ 0 ∷ [])
+    × (times caseW 604800000 2 ≡ 288000000 ∷ 316800000 ∷ 0 ∷ 0 ∷ 0 ∷ 0 ∷ [])
+unfolding caseW upTo isState stateOf
+case-w = (times-by-stretches caseW 604800000 0 tt, times-by-stretches caseW 604800000 1 tt, times-by-stretches caseW 604800000 2 tt)
+
+-- the longest period, whole in one state
+longest : times (at 0 23 0 ∷ []) 31622400000 0 ≡ 0 ∷ 0 ∷ 0 ∷ 0 ∷ 0 ∷ 31622400000 ∷ []
+unfolding upTo isState stateOf
+longest = times-by-stretches (at 0 23 0 ∷ []) 31622400000 0 tt
