@@ -3,7 +3,7 @@
 use mathlib.Core.Path.{_≡_, subst}
 use mathlib.Core.Bool.{Bool, true, false, _||_, not}
 use mathlib.Core.List.{List, [], _∷_, _++_}
-use Prim.Native.Nat.{ℕ, zero, suc, _+_, _*_}
+use Prim.Native.Nat.{ℕ, zero, suc}
 use native.Mathlib.Omega.{arith}
 use lib.Dec.{T, leb, ltb, eqb}
 use lib.ListN.{length}
@@ -18,7 +18,7 @@ use Rattle.rules.specs.Grounds.{ground, _then_, firstOf, inTurn}
 use Rattle.rules.specs.RecordGrounds.{lastTime, ownTime, isBefore, isNotAfter, stateGround, firstTime, isOpening, openingGround, stateGrounds, isAmong, isNone, standardGround, standardGrounds, unitGround, unitGrounds}
 use Rattle.rules.specs.Theoretical.{inForce}
 use Rattle.rules.specs.Quantities.{timeIn, actualTime, ofTool, toolTimes}
-use Rattle.rules.specs.Verdict.{headerGrounds, fastGround, anyOver, sumGrounds, recordGrounds, verdict}
+use Rattle.rules.specs.Verdict.{badPeriod, badModules, badCounts, badLength, headerGrounds, fastGround, anyOver, anyTimeOver, sumGrounds, recordGrounds, verdict}
 use Rattle.rules.specs.Refusals.{Row, isRow, Known, ofLogs}
 
 -- what is refused, if it is, is known
@@ -61,10 +61,10 @@ unfolding headerGrounds
 known-header s =
     let h = headerOf s in
     ruled 1 0 0 (ltb (length s) 10) tt
-    and ruled 2 0 0 (eqb (h .period) 0 || ltb 31622400000 (h .period)) tt
-    and ruled 3 0 0 (eqb (h .modules) 0 || ltb 64 (h .modules)) tt
-    and ruled 4 0 0 (ltb 6000 (h .states) || (ltb 512 (h .standards) || ltb 2000 (h .units))) tt
-    and ruled 5 0 0 (not (eqb (length s) (10 + 6 * h .states + 9 * h .standards + 11 * h .units))) tt
+    and ruled 2 0 0 (badPeriod (h .period)) tt
+    and ruled 3 0 0 (badModules (h .modules)) tt
+    and ruled 4 0 0 (badCounts h) tt
+    and ruled 5 0 0 (badLength (length s) h) tt
 
 known-state : (period modules : ℕ) (earlier : List StateRecord) (i : ℕ) (r : StateRecord) → AllKnown ofLogs (stateGround period modules earlier i r)
 unfolding stateGround
@@ -104,7 +104,7 @@ known-records l =
     and known-turn ofLogs (standardGround (l .period)) [] 0 (l .standards) (known-standard (l .period))
     and known-turn ofLogs (unitGround (l .period) (l .modules) (l .standards)) [] 0 (l .units) (known-unit (l .period) (l .modules) (l .standards))
     and known-first ofLogs (fastGround l) (l .modules) (λ m. ruled 16 0 m (ltb (timeIn l 0 m) (actualTime l m)) tt)
-    and ruled 17 0 0 (anyOver (ofTool l) (toolTimes l)) tt
+    and ruled 17 0 0 (anyOver (ofTool l) || anyTimeOver (toolTimes l)) tt
 
 pub verdict-known : (s : List ℕ) (x : Refusal) → verdict s ≡ Refused x → Known ofLogs x
 unfolding verdict

@@ -5,6 +5,7 @@ use mathlib.Core.List.{List}
 use mathlib.Core.Bool.{Bool, _||_, not}
 use lib.ListN.{length}
 use lib.Dec.{leb, ltb, eqb}
+use Rattle.records.specs.declared.Header.{Header}
 use Rattle.records.specs.Log.{Log, headerOf, decode}
 use Rattle.e79.specs.declared.Quantities.{Quantities}
 use Rattle.rules.specs.declared.StateTimes.{StateTimes}
@@ -13,15 +14,31 @@ use Rattle.rules.specs.Grounds.{ground, _then_, firstOf}
 use Rattle.rules.specs.RecordGrounds.{stateGrounds, standardGrounds, unitGrounds}
 use Rattle.rules.specs.Quantities.{timeIn, actualTime, ofTool, toolTimes, sumBelow, uptime, effectiveTime}
 
+-- the period is 1 to 31,622,400,000 ms, 366 days
+abbrev pub badPeriod : ℕ → Bool
+badPeriod period = eqb period 0 || ltb 31622400000 period
+
+-- 1 to 64 modules
+abbrev pub badModules : ℕ → Bool
+badModules modules = eqb modules 0 || ltb 64 modules
+
+-- at most 6,000 state records, 512 standards and 2,000 unit records
+abbrev pub badCounts : Header → Bool
+badCounts h = ltb 6000 (h .states) || (ltb 512 (h .standards) || ltb 2000 (h .units))
+
+-- the length is that of the header and its counts
+abbrev pub badLength : ℕ → Header → Bool
+badLength length h = not (eqb length (10 + 6 * h .states + 9 * h .standards + 11 * h .units))
+
 -- no header, period, modules, counts, length
 unfoldable pub headerGrounds : List ℕ → Verdict
 headerGrounds s =
     let h = headerOf s in
     ground 1 0 0 (ltb (length s) 10)
-    then ground 2 0 0 (eqb (h .period) 0 || ltb 31622400000 (h .period))
-    then ground 3 0 0 (eqb (h .modules) 0 || ltb 64 (h .modules))
-    then ground 4 0 0 (ltb 6000 (h .states) || (ltb 512 (h .standards) || ltb 2000 (h .units)))
-    then ground 5 0 0 (not (eqb (length s) (10 + 6 * h .states + 9 * h .standards + 11 * h .units)))
+    then ground 2 0 0 (badPeriod (h .period))
+    then ground 3 0 0 (badModules (h .modules))
+    then ground 4 0 0 (badCounts h)
+    then ground 5 0 0 (badLength (length s) h)
 
 -- too fast: module m's actual theoretical time above its production time
 unfoldable pub fastGround : Log → ℕ → Verdict
@@ -32,15 +49,18 @@ fastGround l m = ground 16 0 m (ltb (timeIn l 0 m) (actualTime l m))
 abbrev pub isOver : ℕ → Bool
 isOver n = ltb 9007199254740991 n
 
-abbrev pub anyOver : Quantities → StateTimes → Bool
-anyOver q t =
-    isOver (q .total) || (isOver (q .uptime) || (isOver (q .production) || (isOver (q .actual) || (isOver (q .effective)
-    || (isOver (t .productive) || (isOver (t .standby) || (isOver (t .engineering) || (isOver (t .scheduled) || (isOver (t .unscheduled) || isOver (t .nonscheduled))))))))))
+abbrev pub anyOver : Quantities → Bool
+anyOver q = isOver (q .total) || (isOver (q .uptime) || (isOver (q .production) || (isOver (q .actual) || isOver (q .effective))))
+
+abbrev pub anyTimeOver : StateTimes → Bool
+anyTimeOver t =
+    isOver (t .productive)
+    || (isOver (t .standby) || (isOver (t .engineering) || (isOver (t .scheduled) || (isOver (t .unscheduled) || isOver (t .nonscheduled)))))
 
 -- the modules for 16, the lowest first, then the tool's sums for 17
 unfoldable pub sumGrounds : Log → Verdict
 unfolding fastGround firstOf sumBelow timeIn uptime actualTime effectiveTime
-sumGrounds l = firstOf (fastGround l) (l .modules) then ground 17 0 0 (anyOver (ofTool l) (toolTimes l))
+sumGrounds l = firstOf (fastGround l) (l .modules) then ground 17 0 0 (anyOver (ofTool l) || anyTimeOver (toolTimes l))
 
 unfoldable pub recordGrounds : Log → Verdict
 unfolding stateGrounds standardGrounds unitGrounds sumGrounds

@@ -1,0 +1,2 @@
+// What a buyer calls.
+mod judge;
