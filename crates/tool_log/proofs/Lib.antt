@@ -1,3 +1,4 @@
 pub mod Bounds
 pub mod Sums
 pub mod Accepted
+pub mod ToolSums
