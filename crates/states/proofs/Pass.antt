@@ -23,11 +23,11 @@ use Rattle.rules.specs.Time.{codeAt, isState, count, stateTime}
 use Rattle.rules.specs.RecordGrounds.{ownTime, firstTime, isOpening, stateGround, openingGround, stateGrounds}
 use Rattle.rules.proofs.FirstGround.{first-none, first-more, first-stop}
 use Rattle.states.specs.Tally.{Tallied}
-use Rattle.states.specs.Held.{nextOf, totalsWith, uptimesWith, Room, Unseen, Open, Stretch, fresh, running, Sums, Module, Modules, Held}
+use Rattle.states.specs.Held.{nextOf, totalsWith, uptimesWith, Unseen, Open, Stretch, fresh, running, Sums, Module, Modules, Held}
 use Rattle.states.proofs.OneMore.{code-from, time-before, own-time, first-new, first-stays, code-other, time-other, own-other, first-other}
 use Rattle.states.proofs.Sound.{Sound}
 use Rattle.states.proofs.SixTimes.{opening-zero}
-use Rattle.states.proofs.Sums.{Runs, grows, sums-as, room, sums-own, sums-other, total-length, uptime-length}
+use Rattle.states.proofs.Sums.{Runs, grows, sums-as, sums-own, sums-other, total-length, uptime-length}
 
 -- a record's module and time by their widths
 pub module-low : (s : List ℕ) (i : ℕ) → stateAt s i .«module» < 64
@@ -157,9 +157,6 @@ module _ (rs : List StateRecord) (r : StateRecord) where
         pub since : getD N (r .«module») 0 - 1 ≤ r .time
         since = omega (arith, ok .later, next-own (H .modules .each (r .«module») h .stretch))
 
-        pub has-room : r .time < 2 ^ 64 → Room T U (r .«module») (getD C (r .«module») 0) (r .time - (getD N (r .«module») 0 - 1))
-        has-room l = room (H .sums (r .«module») h) _ _ h (H .modules .each (r .«module») h .low) (omega (arith, since))
-
         pub held-next : Held (rs ++ (r ∷ [])) period
             (totalsWith T (r .«module») (getD C (r .«module») 0) (r .time - (getD N (r .«module») 0 - 1)))
             (uptimesWith U (r .«module») (getD C (r .«module») 0) (r .time - (getD N (r .«module») 0 - 1)))
@@ -250,18 +247,15 @@ module _ {rs : List StateRecord} {period modules : ℕ} {T U N C : List ℕ} {O 
           go (fresh s) = let z : _≡_ {A = ℕ} 0 1 = cc (e, s .opening) in absurd (omega arith)
           go (running s) = s
 
-      pub finish-since : (0 < getD N d 0) × (getD N d 0 - 1 ≤ period)
-      finish-since = (is-opened .next, omega (arith, F .modules-held .each d h .early))
-
-      pub finish-room : period < 2 ^ 64 → Room T U d (getD C d 0) (period - (getD N d 0 - 1))
-      finish-room l = room (F .rest d (omega arith) h) _ _ h (F .modules-held .each d h .low) (omega (arith, finish-since .1))
+      pub opened-since : (0 < getD N d 0) × (getD N d 0 ≤ period)
+      opened-since = (is-opened .next, F .modules-held .each d h .early)
 
       pub finish-more : Finishing rs period modules (d + 1)
           (totalsWith T d (getD C d 0) (period - (getD N d 0 - 1))) (uptimesWith U d (getD C d 0) (period - (getD N d 0 - 1))) N C O
       unfolding openingGround
       finish-more =
           let low = F .modules-held .each d h .low in
-          let runs : Runs rs d (some (getD C d 0)) (getD N d 0 - 1) period = record { from = finish-since .1; same = λ x l b. is-opened .code x l } in
+          let runs : Runs rs d (some (getD C d 0)) (getD N d 0 - 1) period = record { from = omega (arith, opened-since .1); same = λ x l b. is-opened .code x l } in
           record {
             records = F .records;
             openings = first-more (openingGround rs) d (F .openings) (rw (← opening-is, e) refl);

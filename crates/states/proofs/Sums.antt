@@ -32,14 +32,13 @@ grows {rs} {m} {u} {t} {o} r k = count-stretch (λ x. isState k (codeAt rs m x))
 pub sums-as : {rs qs : List StateRecord} {T U : List ℕ} {m u v : ℕ} → ((k : ℕ) → stateTime qs v m k ≡ stateTime rs u m k) → Sums rs T U m u → Sums qs T U m v
 sums-as e s = record { totals = λ k h. s .totals k h ∙ sym (e k); uptime = s .uptime ∙ rw (e 0, e 1, e 2) }
 
-module _ {rs : List StateRecord} {T U : List ℕ} {m u : ℕ} (s : Sums rs T U m u) where
-  pub room : (code d : ℕ) → m < 64 → code < 24 → u + d < 2 ^ 64 → Room T U m code d
-  room code d h low fits = record {
-    known = h;
-    low = low;
-    total = omega (arith, s .totals (stateOf code) (state-low code low), state-time-le rs u m (stateOf code));
-    uptime = omega (arith, s .uptime, six-times-le rs u m);
-  }
+-- what they hold is at most the time up to which they run
+pub room : {rs : List StateRecord} {T U : List ℕ} {m u : ℕ} → Sums rs T U m u → m < 64 → (d : ℕ) → u + d < 2 ^ 64 → Room T U m d
+room {rs} {m = m} {u} s h d fits = record {
+  known = h;
+  totals = λ k l. omega (arith, s .totals k l, state-time-le rs u m k);
+  uptime = omega (arith, s .uptime, six-times-le rs u m);
+}
 
 -- the counters after a stretch of module m
 module _ (T U : List ℕ) (long : length T ≡ 384) (wide : length U ≡ 64) (m code d : ℕ) (h : m < 64) (low : code < 24) where

@@ -82,8 +82,8 @@ fn add_stretch(
     code: usize,
     length: u64,
 )
-    requires { ⌜ now table ≡ states ⌝ }
-    requires { ⌜ Room (now totals) (now uptime) m code length ⌝ }
+    requires { ⌜ (now table ≡ states) × (code < 24) ⌝ }
+    requires { ⌜ Room (now totals) (now uptime) m length ⌝ }
     ensures { λ _. ⌜ now (totals .exit) ≡ totalsWith (now (totals .entry)) m code length ⌝ }
     ensures { λ _. ⌜ now (uptime .exit) ≡ uptimesWith (now (uptime .entry)) m code length ⌝ }
 {
