@@ -8,17 +8,17 @@ use Prim.Native.Nat.{ℕ, zero, suc, _+_, _≤_, _<_, zero-le}
 use native.Mathlib.Omega.{arith}
 use native.Mathlib.Decide.{ℕ-discrete, decLt}
 use lib.Dec.{eqb, leb, ltb}
-use borrow.Author.Tests.{eq-eqb, ne-eqb, le-leb, lt-ltb, le-ltb, eqb-true, ltb-false, not-false}
+use borrow.Author.Tests.{eq-eqb, ne-eqb, le-leb, lt-ltb, le-ltb, eqb-true, not-false}
 use Rattle.records.specs.declared.StateRecord.{StateRecord}
 use Rattle.rules.specs.declared.Verdict.{Verdict}
 use Rattle.rules.specs.declared.Verdict.the-variants.{Accepted}
-use Rattle.rules.specs.Grounds.{ground, _then_, firstOf, inTurn, eachOf}
+use Rattle.rules.specs.Grounds.{firstOf, inTurn, eachOf}
 use Rattle.rules.specs.Time.{stateOf, keep, codeAt, isState, count, stateTime}
 use Rattle.rules.specs.RecordGrounds.{stateGround, firstTime, isOpening, openingGround, stateGrounds}
 use Rattle.rules.proofs.FirstGround.{then-left, then-right, first-all, not-met}
 use Rattle.states.proofs.Table.{state-low}
 use Rattle.states.proofs.Count.{count-le, count-stretch}
-use Rattle.states.proofs.Sound.{Sound, sound}
+use Rattle.states.proofs.Sound.{sound}
 
 -- ---- at most one of the six at a millisecond
 

@@ -4,13 +4,13 @@ use mathlib.Core.Path.{_≡_, refl, sym, _∙_}
 use mathlib.Core.Bool.{Bool, true, false, not, _||_}
 use mathlib.Core.Option.{Option, none, some}
 use mathlib.Core.List.{List}
-use Prim.Native.Nat.{ℕ, suc, _≤_, _<_, zero-le}
+use Prim.Native.Nat.{ℕ, _≤_, _<_, zero-le}
 use native.Mathlib.Omega.{arith}
 use lib.Dec.{eqb, leb, ltb, leb·suc-suc}
 use borrow.Author.Tests.{le-ltb, leb-false, ltb-false}
 use Rattle.records.specs.declared.StateRecord.{StateRecord}
 use Rattle.rules.specs.declared.Verdict.the-variants.{Accepted}
-use Rattle.rules.specs.Grounds.{ground, _then_}
+use Rattle.rules.specs.Grounds.{ground}
 use Rattle.rules.specs.RecordGrounds.{lastTime, ownTime, isBefore, isNotAfter, stateGround}
 use Rattle.rules.proofs.FirstGround.{then-left, then-right, not-met}
 use Rattle.states.specs.Held.{fromOf, nextOf}

@@ -1,6 +1,6 @@
 -- A state time is the sum of its stretches, from a record of the module up to its next. The sum computes at once, where the count takes a step for each millisecond.
 -- Assumes nothing.
-use mathlib.Core.Path.{_≡_, refl, ap, _∙_}
+use mathlib.Core.Path.{_≡_, refl, ap}
 use mathlib.Core.Bool.{Bool, true, false, cond, _&&_}
 use mathlib.Core.Option.{Option, none, some}
 use mathlib.Core.List.{List, [], _∷_, foldl}

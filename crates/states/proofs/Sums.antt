@@ -2,16 +2,16 @@
 -- Assumes nothing.
 use mathlib.Core.Path.{_≡_, refl, sym, ap, _∙_}
 use mathlib.Core.Bool.{Bool, true, false, cond}
-use mathlib.Core.Option.{Option, none, some}
+use mathlib.Core.Option.{Option, some}
 use mathlib.Core.List.{List}
-use Prim.Native.Nat.{ℕ, zero, suc, _+_, _-_, _*_, _^_, _≤_, _<_, zero-le}
+use Prim.Native.Nat.{ℕ, _+_, _-_, _*_, _^_, _≤_, _<_}
 use native.Mathlib.Omega.{arith}
-use lib.Dec.{eqb, ltb, lit<}
-use lib.ListN.{getD, set, length, length-set}
+use lib.Dec.{eqb}
+use lib.ListN.{getD, length, length-set}
 use lib.Seq.{getD-set-same, getD-set-other}
 use borrow.Author.Tests.{eqb-true, eqb-false}
 use Rattle.records.specs.declared.StateRecord.{StateRecord}
-use Rattle.rules.specs.Time.{stateOf, codeAt, isState, count, stateTime}
+use Rattle.rules.specs.Time.{stateOf, codeAt, isState, stateTime}
 use Rattle.states.specs.Tally.{isUptime}
 use Rattle.states.specs.Held.{grown, totalsWith, uptimesWith, Room, Sums}
 use Rattle.states.proofs.Table.{state-low}

@@ -4,16 +4,14 @@ use borrow.Author.Needs.{needs}
 use mathlib.Core.Logic.{⊎-elim}
 use mathlib.Core.Path.{_≡_, sym, ap, _∙_}
 use mathlib.Core.List.{List}
-use Prim.Native.Nat.{ℕ, _-_, _^_, _≤_, _<_}
+use Prim.Native.Nat.{_-_, _^_, _≤_, _<_}
 use native.Mathlib.Omega.{arith}
 use lib.ListN.{getD}
 use Rattle.records.specs.declared.StateRecord.{StateRecord}
 use Rattle.records.specs.Log.{stateAt, upTo}
 use Rattle.records.proofs.UpTo.{up-to-more}
-use Rattle.rules.specs.Grounds.{ground}
-use Rattle.rules.specs.RecordGrounds.{ownTime, stateGround}
+use Rattle.rules.specs.RecordGrounds.{stateGround}
 use Rattle.rules.proofs.FirstGround.{refused-not}
-use Rattle.states.specs.Held.{nextOf, Held}
 use Rattle.states.proofs.OneMore.{last-more}
 use Rattle.states.proofs.Sound.{Sound, sound}
 use Rattle.states.proofs.Pass.{module-low, time-low, next-own, held-first, since, held-next}
