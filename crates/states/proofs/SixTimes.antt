@@ -54,13 +54,16 @@ unfolding stateTime count
 six-count rs m zero = refl
 six-count rs m (suc n) = omega (arith, one-state (codeAt rs m n), six-count rs m n)
 
--- a state time is at most the period, and so is the sum of the six
+-- a state time is at most the period, and so are the sum of the six and the uptime
 pub state-time-le : (rs : List StateRecord) (period m k : ℕ) → stateTime rs period m k ≤ period
 unfolding stateTime
 state-time-le rs period m k = count-le (λ t. isState k (codeAt rs m t)) period
 
 pub six-times-le : (rs : List StateRecord) (period m : ℕ) → sixTimes rs period m ≤ period
 six-times-le rs period m = rw (six-count rs m period) (count-le (λ t. inSix (codeAt rs m t)) period)
+
+pub uptime-le : (rs : List StateRecord) (period m : ℕ) → stateTime rs period m 0 + stateTime rs period m 1 + stateTime rs period m 2 ≤ period
+uptime-le rs period m = omega (arith, six-times-le rs period m)
 
 -- ---- one of them at each millisecond
 

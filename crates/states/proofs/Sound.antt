@@ -23,6 +23,10 @@ pub is-not-after : (t : ℕ) (o : Option ℕ) → isNotAfter t o ≡ ltb t (next
 is-not-after t none = sym (le-ltb t 0 zero-le)
 is-not-after t (some u) = sym (leb·suc-suc t u)
 
+pub from-next : (o : Option ℕ) (t : ℕ) → nextOf o ≤ t → fromOf o ≤ t
+from-next none t h = zero-le
+from-next (some u) t h = omega arith
+
 -- a record that passes after the records `earlier`
 pub record Sound (period modules : ℕ) (earlier : List StateRecord) (r : StateRecord) : Type 0 where
   pub known : r .«module» < modules

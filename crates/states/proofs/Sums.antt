@@ -16,7 +16,7 @@ use Rattle.states.specs.Tally.{isUptime}
 use Rattle.states.specs.Held.{grown, totalsWith, uptimesWith, Room, Sums}
 use Rattle.states.proofs.Table.{state-low}
 use Rattle.states.proofs.Count.{count-stretch}
-use Rattle.states.proofs.SixTimes.{one-of, state-time-le, six-times-le}
+use Rattle.states.proofs.SixTimes.{one-of, state-time-le, uptime-le}
 
 -- from u to t module m's code is o
 pub record Runs (rs : List StateRecord) (m : ℕ) (o : Option ℕ) (u t : ℕ) : Type 0 where
@@ -37,7 +37,7 @@ pub room : {rs : List StateRecord} {T U : List ℕ} {m u : ℕ} → Sums rs T U 
 room {rs} {m = m} {u} s h d fits = record {
   known = h;
   totals = λ k l. omega (arith, s .totals k l, state-time-le rs u m k);
-  uptime = omega (arith, s .uptime, six-times-le rs u m);
+  uptime = omega (arith, s .uptime, uptime-le rs u m);
 }
 
 -- the counters after a stretch of module m
