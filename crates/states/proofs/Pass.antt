@@ -1,14 +1,13 @@
 -- The pass keeps what `Held` says: a record that passes its tests ends its module's open stretch, whose length its counters grow by, and begins the next. At the end each
 -- module's last stretch ends with the period, so that its counters are its state times.
 -- Assumes nothing.
-use mathlib.Core.Path.{_≡_, refl, sym, ap, _∙_}
-use mathlib.Core.Bool.{Bool, true, false, not}
-use mathlib.Core.Option.{Option, none, some, IsSome}
+use mathlib.Core.Path.{_≡_, refl, sym, _∙_}
+use mathlib.Core.Bool.{Bool, true, false}
+use mathlib.Core.Option.{none, some, IsSome}
 use mathlib.Core.List.{List, [], _∷_, _++_}
-use Prim.Native.Nat.{ℕ, zero, suc, _+_, _-_, _*_, _^_, _≤_, _<_}
+use Prim.Native.Nat.{ℕ, _+_, _-_, _*_, _^_, _≤_, _<_}
 use native.Mathlib.Omega.{arith}
 use native.Mathlib.Decide.{ℕ-discrete}
-use native.Mathlib.Numerals.{add-one}
 use lib.Dec.{eqb, lit<}
 use lib.ListN.{getD, set, length, length-set, replicate, length-replicate, getD-replicate}
 use lib.Seq.{getD-set-same, getD-set-other}
@@ -16,18 +15,16 @@ use Rattle.bits.proofs.Fields.{field-lt}
 use Rattle.records.specs.declared.StateRecord.{StateRecord}
 use Rattle.records.specs.Fields.{stateFrom}
 use Rattle.records.specs.Log.{stateAt, upTo}
-use Rattle.rules.specs.declared.Verdict.{Verdict}
-use Rattle.rules.specs.declared.Verdict.the-variants.{Accepted, Refused}
-use Rattle.rules.specs.Grounds.{ground, _then_, firstOf, eachOf}
+use Rattle.rules.specs.declared.Verdict.the-variants.{Accepted}
+use Rattle.rules.specs.Grounds.{ground, firstOf, eachOf}
 use Rattle.rules.specs.Time.{codeAt, isState, count, stateTime}
 use Rattle.rules.specs.RecordGrounds.{ownTime, firstTime, isOpening, stateGround, openingGround, stateGrounds}
 use Rattle.rules.proofs.FirstGround.{first-none, first-more, first-stop}
 use Rattle.states.specs.Tally.{Tallied}
-use Rattle.states.specs.Held.{nextOf, totalsWith, uptimesWith, Room, Unseen, Open, Stretch, fresh, running, Sums, Module, Modules, Held}
+use Rattle.states.specs.Held.{nextOf, totalsWith, uptimesWith, Unseen, Open, Stretch, fresh, running, Sums, Module, Modules, Held}
 use Rattle.states.proofs.OneMore.{code-from, time-before, own-time, first-new, first-stays, code-other, time-other, own-other, first-other}
 use Rattle.states.proofs.Sound.{Sound}
-use Rattle.states.proofs.SixTimes.{opening-zero}
-use Rattle.states.proofs.Sums.{Runs, grows, sums-as, room, sums-own, sums-other, total-length, uptime-length}
+use Rattle.states.proofs.Sums.{Runs, grows, sums-as, sums-own, sums-other, total-length, uptime-length}
 
 -- a record's module and time by their widths
 pub module-low : (s : List ℕ) (i : ℕ) → stateAt s i .«module» < 64
@@ -38,10 +35,30 @@ pub time-low : (s : List ℕ) (i : ℕ) → stateAt s i .time < 2 ^ 35
 unfolding stateFrom
 time-low s i = field-lt s (80 + 48 * i + 11) 35
 
--- the least time that a module's next record may have, as test 10 reads it
-pub next-own : {rs : List StateRecord} {m n c : ℕ} {o : Bool} → Stretch rs m n c o → n ≡ nextOf (ownTime m rs)
-next-own (fresh s) = rw (s .own) (s .next)
-next-own (running s) = rw (s .own) (omega (arith, s .next))
+-- ---- what is known of a module
+
+module _ {rs : List StateRecord} {m n c : ℕ} {o : Bool} where
+  -- the least time that its next record may have, as test 10 reads it
+  pub next-own : Stretch rs m n c o → n ≡ nextOf (ownTime m rs)
+  next-own (fresh s) = rw (s .own) (s .next)
+  next-own (running s) = rw (s .own) (omega (arith, s .next))
+
+  opening-of : Stretch rs m n c o → o ≡ isOpening (firstTime m rs)
+  opening-of (fresh s) = rw (s .first) (s .opening)
+  opening-of (running s) = s .opening
+
+  -- it has no record where the least time is 0, and one where it is not or where it is opened
+  is-unseen : Stretch rs m n c o → n ≡ 0 → Unseen rs m n o
+  is-unseen (fresh s) z = s
+  is-unseen (running s) z = absurd (omega (arith, s .next))
+
+  is-open : Stretch rs m n c o → (n ≡ 0 → ⊥) → Open rs m n c o
+  is-open (fresh s) pos = absurd (pos (s .next))
+  is-open (running s) pos = s
+
+  is-opened : Stretch rs m n c o → o ≡ true → Open rs m n c o
+  is-opened (fresh s) e = let z : _≡_ {A = ℕ} 0 1 = cc (e, s .opening) in absurd (omega arith)
+  is-opened (running s) e = s
 
 -- ---- a record more
 
@@ -102,9 +119,6 @@ module _ (rs : List StateRecord) (r : StateRecord) where
         sums = λ x l. run x l (ℕ-discrete (r .«module») x);
       }
         where
-          m : ℕ
-          m = r .«module»
-
           pick : (x : ℕ) → x < 64 → Dec (r .«module» ≡ x)
               → Module (rs ++ (r ∷ [])) period x (getD (set N (r .«module») (r .time + 1)) x 0) (getD (set C (r .«module») (r .code)) x 0) (getD O⁺ x false)
           pick x l (yes e) =
@@ -128,37 +142,22 @@ module _ (rs : List StateRecord) (r : StateRecord) where
       pub held-first : getD N (r .«module») 0 ≡ 0
           → Held (rs ++ (r ∷ [])) period T U (set N (r .«module») (r .time + 1)) (set C (r .«module») (r .code)) (set O (r .«module») (eqb (r .time) 0))
       unfolding isState
-      held-first z = go (H .modules .each (r .«module») h .stretch)
-        where
-          go : Stretch rs (r .«module») (getD N (r .«module») 0) (getD C (r .«module») 0) (getD O (r .«module») false)
-              → Held (rs ++ (r ∷ [])) period T U (set N (r .«module») (r .time + 1)) (set C (r .«module») (r .code)) (set O (r .«module») (eqb (r .time) 0))
-          go (running s) = absurd (omega (arith, s .next))
-          go (fresh s) =
-              let a : r .«module» < length O = omega (arith, H .modules .opened) in
-              let u : getD N (r .«module») 0 - 1 ≡ 0 = omega arith in
-              let first = first-new rs r (s .first) in
-              let idle : Runs rs (r .«module») none 0 (r .time) = record { from = omega arith; same = λ x l b. s .code x } in
-              held-more T U _ (H .totals) (H .uptime) (length-set O _ _ ∙ H .modules .opened)
-              (module-own _ (rw (getD-set-same O (r .«module») (eqb (r .time) 0) false a, first)) (rw first tt))
-              (sums-as (λ k. time-before rs r (r .«module») k ∙ grows idle k ∙ omega arith) (rw u at (H .sums (r .«module») h)))
-              (λ x ne. getD-set-other O (r .«module») x _ false (λ q. ne (sym q)))
-              (λ x v ne s. s)
+      held-first z =
+          let s = is-unseen (H .modules .each (r .«module») h .stretch) z in
+          let a : r .«module» < length O = omega (arith, H .modules .opened) in
+          let u : getD N (r .«module») 0 - 1 ≡ 0 = omega arith in
+          let first = first-new rs r (s .first) in
+          let idle : Runs rs (r .«module») none 0 (r .time) = record { from = omega arith; same = λ x l b. s .code x } in
+          held-more T U _ (H .totals) (H .uptime) (length-set O _ _ ∙ H .modules .opened)
+          (module-own _ (rw (getD-set-same O (r .«module») (eqb (r .time) 0) false a, first)) (rw first tt))
+          (sums-as (λ k. time-before rs r (r .«module») k ∙ grows idle k ∙ omega arith) (rw u at (H .sums (r .«module») h)))
+          (λ x ne. getD-set-other O (r .«module») x _ false (λ q. ne (sym q)))
+          (λ x v ne s. s)
 
       -- a later record: its module's open stretch ends
       module _ (pos : getD N (r .«module») 0 ≡ 0 → ⊥) where
-        is-open : Open rs (r .«module») (getD N (r .«module») 0) (getD C (r .«module») 0) (getD O (r .«module») false)
-        is-open = go (H .modules .each (r .«module») h .stretch)
-          where
-            go : Stretch rs (r .«module») (getD N (r .«module») 0) (getD C (r .«module») 0) (getD O (r .«module») false)
-                → Open rs (r .«module») (getD N (r .«module») 0) (getD C (r .«module») 0) (getD O (r .«module») false)
-            go (fresh s) = absurd (pos (s .next))
-            go (running s) = s
-
         pub since : getD N (r .«module») 0 - 1 ≤ r .time
         since = omega (arith, ok .later, next-own (H .modules .each (r .«module») h .stretch))
-
-        pub has-room : r .time < 2 ^ 64 → Room T U (r .«module») (getD C (r .«module») 0) (r .time - (getD N (r .«module») 0 - 1))
-        has-room l = room (H .sums (r .«module») h) _ _ h (H .modules .each (r .«module») h .low) (omega (arith, since))
 
         pub held-next : Held (rs ++ (r ∷ [])) period
             (totalsWith T (r .«module») (getD C (r .«module») 0) (r .time - (getD N (r .«module») 0 - 1)))
@@ -168,7 +167,7 @@ module _ (rs : List StateRecord) (r : StateRecord) where
             O
         held-next =
             let low = H .modules .each (r .«module») h .low in
-            let s = is-open in
+            let s = is-open (H .modules .each (r .«module») h .stretch) pos in
             let stays = first-stays rs r (r .«module») (s .first) in
             let runs : Runs rs (r .«module») (some (getD C (r .«module») 0)) (getD N (r .«module») 0 - 1) (r .time) = record { from = since; same = λ x l b. s .code x l } in
             held-more _ _ O
@@ -229,11 +228,7 @@ module _ {rs : List StateRecord} {period modules : ℕ} {T U N C : List ℕ} {O 
 
   module _ {d : ℕ} (F : Finishing rs period modules d T U N C O) (h : d < 64) where
     opening-is : getD O d false ≡ isOpening (firstTime d rs)
-    opening-is = go (F .modules-held .each d h .stretch)
-      where
-        go : Stretch rs d (getD N d 0) (getD C d 0) (getD O d false) → getD O d false ≡ isOpening (firstTime d rs)
-        go (fresh s) = rw (s .first) (s .opening)
-        go (running s) = s .opening
+    opening-is = opening-of (F .modules-held .each d h .stretch)
 
     -- the lowest module that is not opened
     pub finish-stop : d < modules → getD O d false ≡ false → ground 11 0 d true ≡ stateGrounds period modules rs
@@ -243,25 +238,18 @@ module _ {rs : List StateRecord} {period modules : ℕ} {T U N C : List ℕ} {O 
         (sym (first-stop (openingGround rs) modules d _ l (F .openings) (rw (← opening-is, e) refl)))
 
     module _ (e : getD O d false ≡ true) where
-      is-opened : Open rs d (getD N d 0) (getD C d 0) (getD O d false)
-      is-opened = go (F .modules-held .each d h .stretch)
-        where
-          go : Stretch rs d (getD N d 0) (getD C d 0) (getD O d false) → Open rs d (getD N d 0) (getD C d 0) (getD O d false)
-          go (fresh s) = let z : _≡_ {A = ℕ} 0 1 = cc (e, s .opening) in absurd (omega arith)
-          go (running s) = s
+      stretch-of : Open rs d (getD N d 0) (getD C d 0) (getD O d false)
+      stretch-of = is-opened (F .modules-held .each d h .stretch) e
 
-      pub finish-since : (0 < getD N d 0) × (getD N d 0 - 1 ≤ period)
-      finish-since = (is-opened .next, omega (arith, F .modules-held .each d h .early))
-
-      pub finish-room : period < 2 ^ 64 → Room T U d (getD C d 0) (period - (getD N d 0 - 1))
-      finish-room l = room (F .rest d (omega arith) h) _ _ h (F .modules-held .each d h .low) (omega (arith, finish-since .1))
+      pub opened-since : (0 < getD N d 0) × (getD N d 0 ≤ period)
+      opened-since = (stretch-of .next, F .modules-held .each d h .early)
 
       pub finish-more : Finishing rs period modules (d + 1)
           (totalsWith T d (getD C d 0) (period - (getD N d 0 - 1))) (uptimesWith U d (getD C d 0) (period - (getD N d 0 - 1))) N C O
       unfolding openingGround
       finish-more =
           let low = F .modules-held .each d h .low in
-          let runs : Runs rs d (some (getD C d 0)) (getD N d 0 - 1) period = record { from = finish-since .1; same = λ x l b. is-opened .code x l } in
+          let runs : Runs rs d (some (getD C d 0)) (getD N d 0 - 1) period = record { from = omega (arith, opened-since .1); same = λ x l b. stretch-of .code x l } in
           record {
             records = F .records;
             openings = first-more (openingGround rs) d (F .openings) (rw (← opening-is, e) refl);

@@ -8,17 +8,17 @@ use Prim.Native.Nat.{ℕ, zero, suc, _+_, _≤_, _<_, zero-le}
 use native.Mathlib.Omega.{arith}
 use native.Mathlib.Decide.{ℕ-discrete, decLt}
 use lib.Dec.{eqb, leb, ltb}
-use borrow.Author.Tests.{eq-eqb, ne-eqb, le-leb, lt-ltb, le-ltb, eqb-true, ltb-false, not-false}
+use borrow.Author.Tests.{eq-eqb, ne-eqb, le-leb, lt-ltb, le-ltb, eqb-true, not-false}
 use Rattle.records.specs.declared.StateRecord.{StateRecord}
 use Rattle.rules.specs.declared.Verdict.{Verdict}
 use Rattle.rules.specs.declared.Verdict.the-variants.{Accepted}
-use Rattle.rules.specs.Grounds.{ground, _then_, firstOf, inTurn, eachOf}
+use Rattle.rules.specs.Grounds.{firstOf, inTurn, eachOf}
 use Rattle.rules.specs.Time.{stateOf, keep, codeAt, isState, count, stateTime}
 use Rattle.rules.specs.RecordGrounds.{stateGround, firstTime, isOpening, openingGround, stateGrounds}
 use Rattle.rules.proofs.FirstGround.{then-left, then-right, first-all, not-met}
 use Rattle.states.proofs.Table.{state-low}
 use Rattle.states.proofs.Count.{count-le, count-stretch}
-use Rattle.states.proofs.Sound.{Sound, sound}
+use Rattle.states.proofs.Sound.{sound}
 
 -- ---- at most one of the six at a millisecond
 
@@ -54,13 +54,16 @@ unfolding stateTime count
 six-count rs m zero = refl
 six-count rs m (suc n) = omega (arith, one-state (codeAt rs m n), six-count rs m n)
 
--- a state time is at most the period, and so is the sum of the six
+-- a state time is at most the period, and so are the sum of the six and the uptime
 pub state-time-le : (rs : List StateRecord) (period m k : ℕ) → stateTime rs period m k ≤ period
 unfolding stateTime
 state-time-le rs period m k = count-le (λ t. isState k (codeAt rs m t)) period
 
 pub six-times-le : (rs : List StateRecord) (period m : ℕ) → sixTimes rs period m ≤ period
 six-times-le rs period m = rw (six-count rs m period) (count-le (λ t. inSix (codeAt rs m t)) period)
+
+pub uptime-le : (rs : List StateRecord) (period m : ℕ) → stateTime rs period m 0 + stateTime rs period m 1 + stateTime rs period m 2 ≤ period
+uptime-le rs period m = omega (arith, six-times-le rs period m)
 
 -- ---- one of them at each millisecond
 

@@ -4,13 +4,13 @@ use mathlib.Core.Path.{_≡_, refl, sym, _∙_}
 use mathlib.Core.Bool.{Bool, true, false, not, _||_}
 use mathlib.Core.Option.{Option, none, some}
 use mathlib.Core.List.{List}
-use Prim.Native.Nat.{ℕ, suc, _≤_, _<_, zero-le}
+use Prim.Native.Nat.{ℕ, _≤_, _<_, zero-le}
 use native.Mathlib.Omega.{arith}
 use lib.Dec.{eqb, leb, ltb, leb·suc-suc}
 use borrow.Author.Tests.{le-ltb, leb-false, ltb-false}
 use Rattle.records.specs.declared.StateRecord.{StateRecord}
 use Rattle.rules.specs.declared.Verdict.the-variants.{Accepted}
-use Rattle.rules.specs.Grounds.{ground, _then_}
+use Rattle.rules.specs.Grounds.{ground}
 use Rattle.rules.specs.RecordGrounds.{lastTime, ownTime, isBefore, isNotAfter, stateGround}
 use Rattle.rules.proofs.FirstGround.{then-left, then-right, not-met}
 use Rattle.states.specs.Held.{fromOf, nextOf}
@@ -22,6 +22,10 @@ is-before t (some u) = refl
 pub is-not-after : (t : ℕ) (o : Option ℕ) → isNotAfter t o ≡ ltb t (nextOf o)
 is-not-after t none = sym (le-ltb t 0 zero-le)
 is-not-after t (some u) = sym (leb·suc-suc t u)
+
+pub from-next : (o : Option ℕ) (t : ℕ) → nextOf o ≤ t → fromOf o ≤ t
+from-next none t h = zero-le
+from-next (some u) t h = omega arith
 
 -- a record that passes after the records `earlier`
 pub record Sound (period modules : ℕ) (earlier : List StateRecord) (r : StateRecord) : Type 0 where

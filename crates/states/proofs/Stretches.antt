@@ -1,17 +1,25 @@
 -- A state time is the sum of its stretches, from a record of the module up to its next. The sum computes at once, where the count takes a step for each millisecond.
 -- Assumes nothing.
-use mathlib.Core.Path.{_≡_, refl, ap, _∙_}
+use mathlib.Core.Path.{_≡_, refl, ap}
 use mathlib.Core.Bool.{Bool, true, false, cond, _&&_}
 use mathlib.Core.Option.{Option, none, some}
-use mathlib.Core.List.{List, [], _∷_, foldl}
-use Prim.Native.Nat.{ℕ, _+_, _-_, _≤_, _<_}
+use mathlib.Core.List.{List, [], _∷_, _++_, foldl}
+use Prim.Native.Nat.{ℕ, suc, _+_, _-_, _≤_, _<_}
 use native.Mathlib.Omega.{arith}
-use lib.Dec.{T, eqb, leb, leb→le}
-use borrow.Author.Tests.{le-leb, lt-leb}
+use native.Mathlib.Decide.{ℕ-discrete}
+use lib.Dec.{T, eqb, leb, leb→le, le→leb}
+use borrow.Author.Tests.{eq-eqb, ne-eqb, le-leb, lt-leb}
 use Rattle.records.specs.declared.StateRecord.{StateRecord}
 use Rattle.records.specs.Log.{upTo}
+use Rattle.rules.specs.declared.Verdict.the-variants.{Accepted}
+use Rattle.rules.specs.Grounds.{firstOf, inTurn, eachOf}
+use Rattle.rules.specs.RecordGrounds.{ownTime, stateGround, openingGround, stateGrounds}
+use Rattle.rules.proofs.FirstGround.{then-left, then-right}
 use Rattle.rules.specs.Time.{stateOf, keep, codeAt, isState, count, stateTime}
-use Rattle.states.proofs.Table.{both-left, both-right}
+use Rattle.states.specs.Held.{fromOf}
+use Rattle.states.proofs.Table.{both-left, both-right, both}
+use Rattle.states.proofs.OneMore.{own-time, own-other}
+use Rattle.states.proofs.Sound.{Sound, sound, from-next}
 use Rattle.states.proofs.Count.{count-stretch, count-alike}
 
 -- the stretches of module m in state k, from u on, where its code is c at u
@@ -84,6 +92,31 @@ module _ (period m : ℕ) where
   pub by-stretches : (rs : List StateRecord) → T (rises rs period m 0) → (k : ℕ) → stateTime rs period m k ≡ stretches rs period m k none 0
   unfolding stateTime codeAt count
   by-stretches rs h k = omega (arith, from k rs none 0 h)
+
+-- the records of an accepted log rise
+module _ (period modules m : ℕ) where
+  rises-on : (earlier : List StateRecord) (i : ℕ) (rs : List StateRecord) → inTurn (stateGround period modules) earlier i rs ≡ Accepted → fromOf (ownTime m earlier) ≤ period
+      → T (rises rs period m (fromOf (ownTime m earlier)))
+  unfolding inTurn
+  rises-on earlier i [] a l = le→leb (fromOf (ownTime m earlier)) period l
+  rises-on earlier i (r ∷ rs) a l = pick (ℕ-discrete (r .«module») m) (rises-on (earlier ++ (r ∷ [])) (suc i) rs (then-right (stateGround period modules earlier i r) _ a))
+    where
+      ok : Sound period modules earlier r
+      ok = sound period modules earlier i r (then-left (stateGround period modules earlier i r) (inTurn (stateGround period modules) (earlier ++ (r ∷ [])) (suc i) rs) a)
+
+      pick : Dec (r .«module» ≡ m) → (fromOf (ownTime m (earlier ++ (r ∷ []))) ≤ period → T (rises rs period m (fromOf (ownTime m (earlier ++ (r ∷ []))))))
+          → T (rises (r ∷ rs) period m (fromOf (ownTime m earlier)))
+      pick (yes e) rest =
+          let own : ownTime m (earlier ++ (r ∷ [])) ≡ some (r .time) = rw (← e) (own-time earlier r) in
+          let u : fromOf (ownTime m earlier) ≤ r .time = from-next (ownTime m earlier) (r .time) (rw e at (ok .later)) in
+          rw (eq-eqb (r .«module») m e)
+          (both (leb (fromOf (ownTime m earlier)) (r .time)) _ (le→leb (fromOf (ownTime m earlier)) (r .time) u) (rw own at rest (omega (arith, ok .inside))))
+      pick (no ne) rest = rw (ne-eqb (r .«module») m ne) (rw (own-other earlier r m ne) at rest l)
+
+  pub accepted-by-stretches : (rs : List StateRecord) → stateGrounds period modules rs ≡ Accepted → (k : ℕ) → stateTime rs period m k ≡ stretches rs period m k none 0
+  unfolding stateGrounds ownTime
+  accepted-by-stretches rs a =
+      by-stretches period m rs (rises-on [] 0 rs (then-left (eachOf (stateGround period modules) rs) (firstOf (openingGround rs) modules) a) (omega arith))
 
 -- the six times of module m
 abbrev pub times : List StateRecord → ℕ → ℕ → List ℕ

@@ -2,21 +2,21 @@
 -- Assumes nothing.
 use mathlib.Core.Path.{_≡_, refl, sym, ap, _∙_}
 use mathlib.Core.Bool.{Bool, true, false, cond}
-use mathlib.Core.Option.{Option, none, some}
+use mathlib.Core.Option.{Option, some}
 use mathlib.Core.List.{List}
-use Prim.Native.Nat.{ℕ, zero, suc, _+_, _-_, _*_, _^_, _≤_, _<_, zero-le}
+use Prim.Native.Nat.{ℕ, _+_, _-_, _*_, _^_, _≤_, _<_}
 use native.Mathlib.Omega.{arith}
-use lib.Dec.{eqb, ltb, lit<}
-use lib.ListN.{getD, set, length, length-set}
+use lib.Dec.{eqb}
+use lib.ListN.{getD, length, length-set}
 use lib.Seq.{getD-set-same, getD-set-other}
 use borrow.Author.Tests.{eqb-true, eqb-false}
 use Rattle.records.specs.declared.StateRecord.{StateRecord}
-use Rattle.rules.specs.Time.{stateOf, codeAt, isState, count, stateTime}
+use Rattle.rules.specs.Time.{stateOf, codeAt, isState, stateTime}
 use Rattle.states.specs.Tally.{isUptime}
 use Rattle.states.specs.Held.{grown, totalsWith, uptimesWith, Room, Sums}
 use Rattle.states.proofs.Table.{state-low}
 use Rattle.states.proofs.Count.{count-stretch}
-use Rattle.states.proofs.SixTimes.{one-of, state-time-le, six-times-le}
+use Rattle.states.proofs.SixTimes.{one-of, state-time-le, uptime-le}
 
 -- from u to t module m's code is o
 pub record Runs (rs : List StateRecord) (m : ℕ) (o : Option ℕ) (u t : ℕ) : Type 0 where
@@ -32,14 +32,13 @@ grows {rs} {m} {u} {t} {o} r k = count-stretch (λ x. isState k (codeAt rs m x))
 pub sums-as : {rs qs : List StateRecord} {T U : List ℕ} {m u v : ℕ} → ((k : ℕ) → stateTime qs v m k ≡ stateTime rs u m k) → Sums rs T U m u → Sums qs T U m v
 sums-as e s = record { totals = λ k h. s .totals k h ∙ sym (e k); uptime = s .uptime ∙ rw (e 0, e 1, e 2) }
 
-module _ {rs : List StateRecord} {T U : List ℕ} {m u : ℕ} (s : Sums rs T U m u) where
-  pub room : (code d : ℕ) → m < 64 → code < 24 → u + d < 2 ^ 64 → Room T U m code d
-  room code d h low fits = record {
-    known = h;
-    low = low;
-    total = omega (arith, s .totals (stateOf code) (state-low code low), state-time-le rs u m (stateOf code));
-    uptime = omega (arith, s .uptime, six-times-le rs u m);
-  }
+-- what they hold is at most the time up to which they run
+pub room : {rs : List StateRecord} {T U : List ℕ} {m u : ℕ} → Sums rs T U m u → m < 64 → (d : ℕ) → u + d < 2 ^ 64 → Room T U m d
+room {rs} {m = m} {u} s h d fits = record {
+  known = h;
+  totals = λ k l. omega (arith, s .totals k l, state-time-le rs u m k);
+  uptime = omega (arith, s .uptime, uptime-le rs u m);
+}
 
 -- the counters after a stretch of module m
 module _ (T U : List ℕ) (long : length T ≡ 384) (wide : length U ≡ 64) (m code d : ℕ) (h : m < 64) (low : code < 24) where

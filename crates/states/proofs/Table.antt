@@ -17,6 +17,10 @@ pub both-right : (a b : Bool) → T (a && b) → T b
 both-right true b t = t
 both-right false b t = absurd t
 
+pub both : (a b : Bool) → T a → T b → T (a && b)
+both true b s t = t
+both false b s t = s
+
 -- the test passes at each number below n
 abbrev pub every : (ℕ → Bool) → ℕ → Bool
 every p zero = true

@@ -37,11 +37,10 @@ totalsWith T m code d = grown T (6 * m + stateOf code) d
 abbrev pub uptimesWith : List ℕ → ℕ → ℕ → ℕ → List ℕ
 uptimesWith U m code d = cond (isUptime code) (grown U m d) U
 
--- a stretch of d ms in the state of a code fits module m's counters
-pub record Room (T U : List ℕ) (m code d : ℕ) : Type 0 where
+-- a stretch of d ms fits each of module m's counters
+pub record Room (T U : List ℕ) (m d : ℕ) : Type 0 where
   pub known : m < 64
-  pub low : code < 24
-  pub total : getD T (6 * m + stateOf code) 0 + d < 2 ^ 64
+  pub totals : (k : ℕ) → k < 6 → getD T (6 * m + k) 0 + d < 2 ^ 64
   pub uptime : getD U m 0 + d < 2 ^ 64
 
 -- module m has no record yet

@@ -57,7 +57,7 @@ const STATES: [u8; 24] = [
     NONSCHEDULED,
 ];
 
-// The state of a code. The table is lent, since a constant that is indexed is laid out anew at each use: that took longer than the rest of the pass.
+// The state of a code. The table is lent, since a constant that is indexed is laid out anew at each use.
 fn state_of(table: &[u8; 24], code: usize) -> usize
     requires { ⌜ (now table ≡ states) × (code < 24) ⌝ }
     ensures { λ r. ⌜ (r ≡ stateOf code) × (r < 6) ⌝ }
@@ -73,7 +73,7 @@ fn is_uptime(table: &[u8; 24], code: usize) -> bool
     state_of(table, code) < 3
 }
 
-// Adds a stretch of `length` ms in the sub-state of a code to module m's total of that state, and to its uptime where it is that.
+// Adds a stretch of `length` ms in the sub-state of a code to module m's total of its state, and to m's uptime where the code is an uptime code.
 fn add_stretch(
     table: &[u8; 24],
     totals: &mut [u64; 384],
@@ -82,8 +82,8 @@ fn add_stretch(
     code: usize,
     length: u64,
 )
-    requires { ⌜ now table ≡ states ⌝ }
-    requires { ⌜ Room (now totals) (now uptime) m code length ⌝ }
+    requires { ⌜ (now table ≡ states) × (code < 24) ⌝ }
+    requires { ⌜ Room (now totals) (now uptime) m length ⌝ }
     ensures { λ _. ⌜ now (totals .exit) ≡ totalsWith (now (totals .entry)) m code length ⌝ }
     ensures { λ _. ⌜ now (uptime .exit) ≡ uptimesWith (now (uptime .entry)) m code length ⌝ }
 {
@@ -210,8 +210,8 @@ fn tally_records(
     Verdict::Accepted
 }
 
-// Tests the state records one by one and sums the modules' state times on the way, in one pass; then the modules, the lowest first, whose last stretches end with the period.
-// The caller lends counters that are zero. This is no buyer's call: those have no `requires`.
+// Tests the state records one by one and sums the modules' state times on the way, in one pass. Then the modules, the lowest first: each must be opened, and its last stretch ends with the period.
+// No buyer's call: the caller has tested the header, and lends counters that are zero.
 pub fn tally_states(
     log: &[u8],
     h: Header,

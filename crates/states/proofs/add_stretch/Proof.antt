@@ -6,7 +6,7 @@ use Rattle.states.proofs.add_stretch.Statement.{statement}
 use Rattle.states.proofs.add_stretch.Tie as tie
 
 add-totals : tie.Need-add-totals
-add-totals c = rw (c .before .state-of .ensures .0) (omega arith)
+add-totals c = omega (arith, c .before .before .pre .1 .totals (c .before .state-of .result) (c .before .state-of .ensures .1))
 
 returns : tie.Need-returns
 returns c = (rw (c .before .before .before .before .state-of .ensures .0), rw (← c .before .before .is-uptime .ensures, c .before .if1 .taken))

@@ -4,19 +4,18 @@ use borrow.Author.Needs.{needs}
 use mathlib.Core.Logic.{⊎-elim}
 use mathlib.Core.Path.{_≡_, sym, ap, _∙_}
 use mathlib.Core.List.{List}
-use Prim.Native.Nat.{ℕ, _^_, _<_}
+use Prim.Native.Nat.{_-_, _^_, _≤_, _<_}
 use native.Mathlib.Omega.{arith}
 use lib.ListN.{getD}
 use Rattle.records.specs.declared.StateRecord.{StateRecord}
 use Rattle.records.specs.Log.{stateAt, upTo}
 use Rattle.records.proofs.UpTo.{up-to-more}
-use Rattle.rules.specs.Grounds.{ground}
-use Rattle.rules.specs.RecordGrounds.{ownTime, stateGround}
+use Rattle.rules.specs.RecordGrounds.{stateGround}
 use Rattle.rules.proofs.FirstGround.{refused-not}
-use Rattle.states.specs.Held.{nextOf, Held}
 use Rattle.states.proofs.OneMore.{last-more}
 use Rattle.states.proofs.Sound.{Sound, sound}
-use Rattle.states.proofs.Pass.{module-low, time-low, next-own, held-first, since, has-room, held-next}
+use Rattle.states.proofs.Pass.{module-low, time-low, next-own, held-first, since, held-next}
+use Rattle.states.proofs.Sums.{room}
 use Rattle.states.proofs.tally_record.Statement.{statement}
 use Rattle.states.proofs.tally_record.Tie as tie
 
@@ -56,17 +55,22 @@ returns c = record {
   held = λ e. absurd (refused-not e);
 }
 
-sub-add-stretch-2 : tie.Need-sub-add-stretch-2
-sub-add-stretch-2 c =
-    let a = c .before .before .before .before in
+-- a later record of its module comes after the open stretch began
+later : (c : tie.Else1) → let q = c .before .before .before .before .before .before in getD (q .before .before .args .next .now) (q .state-record .result .«module») 0 - 1 ≤ q .state-record .result .time
+later c =
+    let a = c .before in
     let q = a .before .before .before .before .before in
-    since _ _ (is-sound a) (q .before .before .pre .1 .1) (module-below q) (c .before .before .before .if1 .left)
+    since _ _ (is-sound a) (q .before .before .pre .1 .1) (module-below q) (c .if1 .left)
 
 add-stretch-requires : tie.Need-add-stretch-requires
 add-stretch-requires c κs =
-    let a = c .before .before .before .before in
+    let e = c .before .before .before in
+    let a = e .before in
     let q = a .before .before .before .before .before in
-    (q .before .before .pre .0, has-room _ _ (is-sound a) (q .before .before .pre .1 .1) (module-below q) (c .before .before .before .if1 .left) (omega (arith, time-below q)))
+    let H = q .before .before .pre .1 .1 in (
+      (q .before .before .pre .0, omega (arith, H .modules .each _ (module-below q) .low, is-sound a .low)),
+      room (H .sums _ (module-below q)) (module-below q) _ (omega (arith, later e, time-below q)),
+    )
 
 returns-2 : tie.Need-returns-2
 returns-2 c =
@@ -98,7 +102,7 @@ tally-record-spec =
     (λ c. omega (arith, module-below (c .before .before .before .before .before .before)))
     (λ c. module-below (c .before .before .before .before .before .before))
     (λ c. search needs)
-    sub-add-stretch-2
+    (λ c. omega (arith, later (c .before .before .before)))
     add-stretch-requires
     (λ c. omega (arith, time-below (c .before .before .before .before .before .before)))
     (λ c. omega (arith, module-below (c .before .before .before .before .before .before)))

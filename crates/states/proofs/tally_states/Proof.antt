@@ -2,14 +2,15 @@
 -- Assumes nothing.
 use borrow.Author.Needs.{needs}
 use borrow.Author.Tests.{not-true, not-false}
-use mathlib.Core.Path.{_≡_, refl, sym, ap, _∙_}
+use mathlib.Core.Path.{_≡_, refl, sym, _∙_}
 use Prim.Native.Nat.{_-_, _≤_, _<_}
 use native.Mathlib.Omega.{arith}
 use Rattle.records.specs.Log.{stateAt, upTo}
 use Rattle.rules.specs.Time.{states}
 use Rattle.rules.specs.RecordGrounds.{stateGrounds}
 use Rattle.rules.proofs.FirstGround.{refused-not}
-use Rattle.states.proofs.Pass.{held-none, Finishing, finish-start, finish-stop, finish-since, finish-room, finish-more, finish-all}
+use Rattle.states.proofs.Sums.{room}
+use Rattle.states.proofs.Pass.{held-none, Finishing, finish-start, finish-stop, opened-since, finish-more, finish-all}
 use Rattle.states.proofs.tally_states.Statement.{statement}
 use Rattle.states.proofs.tally_states.Tie as tie
 
@@ -78,17 +79,20 @@ array-read-add-stretch-2 c = search needs
 sub-add-stretch : tie.Need-sub-add-stretch Inv-loop μ-loop
 sub-add-stretch c =
     let a = c .before .before .before in
-    finish-since (a .before .before .loop .inv .2) (below (a .before)) (not-false _ (a .if1 .left)) .0
+    omega (arith, opened-since (a .before .before .loop .inv .2) (below (a .before)) (not-false _ (a .if1 .left)))
 
 sub-add-stretch-2 : tie.Need-sub-add-stretch-2 Inv-loop μ-loop
 sub-add-stretch-2 c =
     let a = c .before .before .before .before in
-    finish-since (a .before .before .loop .inv .2) (below (a .before)) (not-false _ (a .if1 .left)) .1
+    omega (arith, opened-since (a .before .before .loop .inv .2) (below (a .before)) (not-false _ (a .if1 .left)))
 
 add-stretch-requires : tie.Need-add-stretch-requires Inv-loop μ-loop
 add-stretch-requires c κs =
     let a = c .before .before .before .before in
-    (a .before .before .loop .inv .1, finish-room (a .before .before .loop .inv .2) (below (a .before)) (not-false _ (a .if1 .left)) (omega (arith, c .struct-known .given)))
+    let i = a .before .before .loop .inv in (
+      (i .1, i .2 .modules-held .each _ (below (a .before)) .low),
+      room (i .2 .rest _ (omega arith) (below (a .before))) (below (a .before)) _ (omega (arith, opened-since (i .2) (below (a .before)) (not-false _ (a .if1 .left)), c .struct-known .given)),
+    )
 
 add-m : tie.Need-add-m Inv-loop μ-loop
 add-m c = search needs
