@@ -42,7 +42,11 @@ impl BitWriter {
 
 impl Draft {
     pub fn counts(&self) -> [u64; 3] {
-        [self.states.len() as u64, self.standards.len() as u64, self.units.len() as u64]
+        [
+            self.states.len() as u64,
+            self.standards.len() as u64,
+            self.units.len() as u64,
+        ]
     }
 
     pub fn bytes(&self) -> Vec<u8> {
@@ -81,14 +85,30 @@ impl Draft {
     }
 
     pub fn state(&mut self, module: u64, code: u64, time: u64) {
-        self.states.push(StateRecord { module, code, time, spare: 0 });
+        self.states.push(StateRecord {
+            module,
+            code,
+            time,
+            spare: 0,
+        });
     }
 
     pub fn standard(&mut self, recipe: u64, start: u64, theoretical: u64) {
-        self.standards.push(Standard { recipe, start, theoretical });
+        self.standards.push(Standard {
+            recipe,
+            start,
+            theoretical,
+        });
     }
 
     pub fn unit(&mut self, module: u64, recipe: u64, time: u64, actual: u64, effective: u64) {
-        self.units.push(UnitRecord { module, recipe, time, actual, effective, spare: 0 });
+        self.units.push(UnitRecord {
+            module,
+            recipe,
+            time,
+            actual,
+            effective,
+            spare: 0,
+        });
     }
 }

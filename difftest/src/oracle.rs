@@ -49,7 +49,11 @@ impl BitReader<'_> {
     }
 
     fn standard(&mut self) -> Standard {
-        Standard { recipe: self.number(10), start: self.number(35), theoretical: self.number(27) }
+        Standard {
+            recipe: self.number(10),
+            start: self.number(35),
+            theoretical: self.number(27),
+        }
     }
 
     fn unit_record(&mut self) -> UnitRecord {
@@ -86,9 +90,7 @@ pub fn read(bytes: &[u8]) -> Result<Log, Refusal> {
     if header.modules == 0 || header.modules > MOST_MODULES {
         return Err(Refusal::of_log(3));
     }
-    if header.states > MOST_STATES
-        || header.standards > MOST_STANDARDS
-        || header.units > MOST_UNITS
+    if header.states > MOST_STATES || header.standards > MOST_STANDARDS || header.units > MOST_UNITS
     {
         return Err(Refusal::of_log(4));
     }
@@ -137,7 +139,11 @@ pub type StateTimes = [u64; 6];
 
 /// Records of one module, in list sequence.
 fn records_of(log: &Log, module: u64) -> Vec<StateRecord> {
-    log.states.iter().copied().filter(|record| record.module == module).collect()
+    log.states
+        .iter()
+        .copied()
+        .filter(|record| record.module == module)
+        .collect()
 }
 
 /// A module's state times by its stretches: each record holds until the module's next or the period's end.
@@ -177,9 +183,17 @@ const COUNTED_WORK: u64 = 20_000;
 fn state_times(log: &Log, module: u64) -> StateTimes {
     let times = stretched_state_times(log, module);
     if log.header.period * log.header.states <= COUNTED_WORK {
-        assert_eq!(times, counted_state_times(log, module), "stretches and milliseconds disagree");
+        assert_eq!(
+            times,
+            counted_state_times(log, module),
+            "stretches and milliseconds disagree"
+        );
     }
-    assert_eq!(times.iter().sum::<u64>(), log.header.period, "the six do not add up to the period");
+    assert_eq!(
+        times.iter().sum::<u64>(),
+        log.header.period,
+        "the six do not add up to the period"
+    );
     times
 }
 
@@ -197,7 +211,13 @@ pub struct Quantities {
 
 impl Quantities {
     pub fn array(&self) -> [u64; 5] {
-        [self.total, self.uptime, self.production, self.actual, self.effective]
+        [
+            self.total,
+            self.uptime,
+            self.production,
+            self.actual,
+            self.effective,
+        ]
     }
 }
 
@@ -239,7 +259,10 @@ fn module_sums(log: &Log, module: u64) -> Sums {
         quantities.actual += unit.actual * standard.theoretical;
         quantities.effective += unit.effective * standard.theoretical;
     }
-    Sums { state_times, quantities }
+    Sums {
+        state_times,
+        quantities,
+    }
 }
 
 fn tool_sums(modules: &[Sums]) -> Sums {
@@ -276,7 +299,10 @@ fn test_state_records(log: &Log) -> Result<(), Refusal> {
             return refused(9);
         }
         let before_the_one_before = earlier.last().is_some_and(|last| record.time < last.time);
-        let own_last = earlier.iter().rev().find(|other| other.module == record.module);
+        let own_last = earlier
+            .iter()
+            .rev()
+            .find(|other| other.module == record.module);
         let not_after_own_last = own_last.is_some_and(|last| record.time <= last.time);
         if before_the_one_before || not_after_own_last {
             return refused(10);
@@ -289,7 +315,11 @@ fn test_openings(log: &Log) -> Result<(), Refusal> {
     for module in 0..log.header.modules {
         let opening = log.states.iter().find(|record| record.module == module);
         if !opening.is_some_and(|record| record.time == 0) {
-            return Err(Refusal { number: 11, list: NO_LIST, place: module });
+            return Err(Refusal {
+                number: 11,
+                list: NO_LIST,
+                place: module,
+            });
         }
     }
     Ok(())
@@ -368,8 +398,9 @@ pub fn account(bytes: &[u8]) -> Result<Account, Refusal> {
     test_openings(&log)?;
     test_standards(&log)?;
     test_unit_records(&log)?;
-    let modules: Vec<Sums> =
-        (0..log.header.modules).map(|module| module_sums(&log, module)).collect();
+    let modules: Vec<Sums> = (0..log.header.modules)
+        .map(|module| module_sums(&log, module))
+        .collect();
     test_rates(&modules)?;
     let tool = tool_sums(&modules);
     test_tool(&tool)?;
@@ -379,7 +410,9 @@ pub fn account(bytes: &[u8]) -> Result<Account, Refusal> {
 impl Account {
     /// The sums of a module, or the refusal of one at or above the count.
     pub fn module(&self, module: usize) -> Result<&Sums, Refusal> {
-        self.modules.get(module).ok_or(Refusal::new(7, NO_LIST, module))
+        self.modules
+            .get(module)
+            .ok_or(Refusal::new(7, NO_LIST, module))
     }
 
     /// The whole report.

@@ -17,10 +17,12 @@ impl Prng {
     pub fn new(seed: u64, index: u64) -> Prng {
         let mut mixed = seed;
         let mut source = splitmix64(&mut mixed) ^ index;
-        Prng { state: std::array::from_fn(|_| splitmix64(&mut source)) }
+        Prng {
+            state: std::array::from_fn(|_| splitmix64(&mut source)),
+        }
     }
 
-    pub fn next(&mut self) -> u64 {
+    pub fn draw(&mut self) -> u64 {
         let s = &mut self.state;
         let answer = s[1].wrapping_mul(5).rotate_left(7).wrapping_mul(9);
         let t = s[1] << 17;
@@ -35,7 +37,7 @@ impl Prng {
 
     /// 0 up to `bound` less 1; `bound` is above 0.
     pub fn below(&mut self, bound: u64) -> u64 {
-        ((u128::from(self.next()) * u128::from(bound)) >> 64) as u64
+        ((u128::from(self.draw()) * u128::from(bound)) >> 64) as u64
     }
 
     /// `low` up to `high`, both included.

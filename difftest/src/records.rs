@@ -65,7 +65,11 @@ pub const UNITS: u64 = 3;
 
 impl Refusal {
     pub fn new(number: u64, list: u64, place: usize) -> Refusal {
-        Refusal { number, list, place: place as u64 }
+        Refusal {
+            number,
+            list,
+            place: place as u64,
+        }
     }
 
     /// A refusal of the log as a whole.
@@ -75,6 +79,9 @@ impl Refusal {
 
     /// The line that a refused log prints.
     pub fn line(&self) -> String {
-        format!("refused {} list {} at {}\n", self.number, self.list, self.place)
+        format!(
+            "refused {} list {} at {}\n",
+            self.number, self.list, self.place
+        )
     }
 }

@@ -7,7 +7,11 @@ use difftest::records::*;
 const WEEK: u64 = 604_800_000;
 
 fn case_w() -> Draft {
-    let mut draft = Draft { period: WEEK, modules: 3, ..Draft::default() };
+    let mut draft = Draft {
+        period: WEEK,
+        modules: 3,
+        ..Draft::default()
+    };
     for (module, code, time) in [
         (0, 0, 0),
         (1, 0, 0),
@@ -29,7 +33,11 @@ fn case_w() -> Draft {
 
 /// One productive module, one standard of 1 ms from the start on.
 fn bench(period: u64) -> Draft {
-    let mut draft = Draft { period, modules: 1, ..Draft::default() };
+    let mut draft = Draft {
+        period,
+        modules: 1,
+        ..Draft::default()
+    };
     draft.state(0, 0, 0);
     draft.standard(0, 0, 1);
     draft
@@ -60,7 +68,10 @@ fn case_w_prints_its_report() {
     assert_eq!(whole.fits(182), Err(Refusal::of_log(18)));
     assert_eq!(whole.module(2).map(|sums| sums.quantities.total), Ok(WEEK));
     assert_eq!(whole.module(3).err(), Some(Refusal::new(7, 0, 3)));
-    assert_eq!(whole.module(usize::MAX).err(), Some(Refusal::new(7, 0, usize::MAX)));
+    assert_eq!(
+        whole.module(usize::MAX).err(),
+        Some(Refusal::new(7, 0, usize::MAX))
+    );
 }
 
 #[test]
@@ -107,7 +118,15 @@ fn counts_and_length() {
 
     let length = case_w().bytes().len();
     for wrong in [10, length - 1, length + 1, length + 70_000] {
-        refused(&Draft { length: Some(wrong), ..case_w() }, 5, 0, 0);
+        refused(
+            &Draft {
+                length: Some(wrong),
+                ..case_w()
+            },
+            5,
+            0,
+            0,
+        );
     }
 }
 
@@ -123,7 +142,11 @@ fn the_longest_log() {
 
 #[test]
 fn no_records() {
-    let empty = Draft { period: 1, modules: 1, ..Draft::default() };
+    let empty = Draft {
+        period: 1,
+        modules: 1,
+        ..Draft::default()
+    };
     assert_eq!(empty.bytes().len(), 10);
     refused(&empty, 11, 0, 0);
 }
