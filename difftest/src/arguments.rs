@@ -1,10 +1,10 @@
 //! The arguments of the programs.
 
-/// Seed and count, none where they are missing or no whole numbers.
-pub fn seed_and_count() -> Option<(u64, u64)> {
+/// Two whole numbers, none where they are missing or something else: a seed and a count or an index.
+pub fn two_numbers() -> Option<(u64, u64)> {
     let arguments: Vec<String> = std::env::args().skip(1).collect();
-    let [seed, count] = arguments.as_slice() else {
+    let [first, second] = arguments.as_slice() else {
         return None;
     };
-    Some((seed.parse().ok()?, count.parse().ok()?))
+    Some((first.parse().ok()?, second.parse().ok()?))
 }

@@ -314,7 +314,7 @@ fn test_state_records(log: &Log) -> Result<(), Refusal> {
 fn test_openings(log: &Log) -> Result<(), Refusal> {
     for module in 0..log.header.modules {
         let opening = log.states.iter().find(|record| record.module == module);
-        if !opening.is_some_and(|record| record.time == 0) {
+        if opening.is_none_or(|record| record.time != 0) {
             return Err(Refusal {
                 number: 11,
                 list: NO_LIST,

@@ -4,9 +4,6 @@ use crate::records::Refusal;
 use std::collections::BTreeMap;
 use std::fmt;
 
-/// 17 cannot be met: after 16 no sum of a tool can pass its bound.
-pub const UNREACHABLE: u64 = 17;
-
 #[derive(Default)]
 pub struct Tally {
     pub logs: u64,
@@ -29,10 +26,20 @@ impl Tally {
         }
     }
 
-    /// The numbers 1 to 16 that no log met.
+    /// The numbers 1 to 16 that no log met. 17 cannot be met: after 16 no sum passes its bound.
     pub fn never_met(&self) -> Vec<u64> {
         let met = |number: &u64| self.refused.keys().any(|(other, _)| other == number);
         (1..=16).filter(|number| !met(number)).collect()
+    }
+
+    /// The same, and 18 where no buffer was too short.
+    pub fn never_met_with_buffers(&self) -> Vec<u64> {
+        let short = if self.short_buffers == 0 {
+            Some(18)
+        } else {
+            None
+        };
+        self.never_met().into_iter().chain(short).collect()
     }
 }
 

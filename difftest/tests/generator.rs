@@ -76,7 +76,8 @@ fn shapes(log: &Log, account: &Account) -> Vec<String> {
 
     note("an exact half in the fifth place", {
         sums(&|q| {
-            let half = |n: u64, d: u64| d > 0 && 20_000 * n % d == 0 && 20_000 * n / d % 2 == 1;
+            let half =
+                |n: u64, d: u64| d > 0 && (20_000 * n).is_multiple_of(d) && 20_000 * n / d % 2 == 1;
             half(q.uptime, q.total) || half(q.actual, q.production) || half(q.effective, q.total)
         })
     });

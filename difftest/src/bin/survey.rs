@@ -3,14 +3,14 @@
 //!
 //! survey SEED COUNT
 
-use difftest::arguments::seed_and_count;
+use difftest::arguments::two_numbers;
 use difftest::generator::{make, Expected};
 use difftest::oracle::account;
 use difftest::tally::Tally;
 use std::process::ExitCode;
 
 fn main() -> ExitCode {
-    let Some((seed, count)) = seed_and_count() else {
+    let Some((seed, count)) = two_numbers() else {
         eprintln!("usage: survey SEED COUNT");
         return ExitCode::from(2);
     };
