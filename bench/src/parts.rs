@@ -7,28 +7,31 @@ pub const TIME_MASK: u64 = (1 << 35) - 1;
 
 const GREATEST_SUM: u64 = (1 << 53) - 1;
 
-/// Productive, standby, engineering, scheduled down, unscheduled down, nonscheduled.
-const STATES_OF_A_MODULE: usize = 6;
-const COUNTERS: usize = STATES_OF_A_MODULE * MODULES;
+/// Productive, standby, engineering, scheduled down, unscheduled down, nonscheduled; as many
+/// counters as three bits can name, so that no index needs a test.
+const STATES_OF_A_MODULE: usize = 1 << STATE_BITS;
+const STATE_BITS: u32 = 3;
+const STATE_MASK: u64 = (1 << STATE_BITS) - 1;
 
-/// The state of each code of the field's 32.
-const STRAY: u8 = 6;
-const STATE_OF_CODE: [u8; 32] = {
-    let mut table = [STRAY; 32];
-    let mut code = 0;
-    while code < 24 {
-        table[code] = match code {
-            0..=5 => 0,
-            6..=11 => 1,
-            12..=13 => 2,
-            14..=17 => 3,
-            18..=21 => 4,
-            _ => 5,
-        };
-        code += 1;
-    }
-    table
-};
+const STATE_OF_CODE: [u8; 32] = [
+    0, 0, 0, 0, 0, 0, 1, 1, 1, 1, 1, 1, 2, 2, 3, 3, 3, 3, 4, 4, 4, 4, 5,
+    5, // 24 to 31 are stray
+    7, 7, 7, 7, 7, 7, 7, 7,
+];
+
+/// Where the fields of a state record's 48 bits are.
+const MODULE_SHIFT: u32 = 42;
+const CODE_SHIFT: u32 = 37;
+const TIME_SHIFT: u32 = 2;
+const SPARE_MASK: u64 = 3;
+/// Time and spare bits together: while the spare bits are 0, the time in quarters of a ms.
+const SHIFTED_TIME_MASK: u64 = (1 << CODE_SHIFT) - 1;
+
+#[inline(always)]
+fn state_word(record: &[u8; 6]) -> u64 {
+    let [a, b, c, d, e, f] = *record;
+    u64::from(u32::from_be_bytes([a, b, c, d])) << 16 | u64::from(u16::from_be_bytes([e, f]))
+}
 
 /// The eight bytes of a record from `at` on, as a number.
 #[inline(always)]
@@ -97,45 +100,34 @@ pub struct Times {
 
 /// One pass over the state records: grounds 6 to 11 and the times.
 pub fn times(lists: &Lists) -> Result<Times, Refusal> {
-    let mut counters = [0u64; COUNTERS];
-    // Each module's open stretch: its start, and its state in the lowest three bits.
+    let records = records::<6>(lists.states);
     let mut open = [0u64; MODULES];
+    let openings = openings(lists, records, &mut open)?;
+    let mut counters = [[0u64; STATES_OF_A_MODULE]; MODULES];
+    let modules_end = (lists.modules as u64) << MODULE_SHIFT;
+    let period_end = lists.period << TIME_SHIFT;
     let mut latest = 0;
-    // Modules with a record at the latest time; those that had one at time 0.
-    let mut at_latest = 0u64;
-    let mut opened = 0u64;
-    for (place, record) in records::<6>(lists.states).iter().enumerate() {
-        let [a, b, c, d, e, f] = *record;
-        let word = u64::from(u32::from_be_bytes([a, b, c, d])) << 16
-            | u64::from(u16::from_be_bytes([e, f]));
-        let module = (word >> 42) as usize;
-        let state = STATE_OF_CODE[(word >> 37 & 31) as usize];
-        let time = word >> 2 & TIME_MASK;
-        if time > latest {
-            if latest == 0 {
-                opened = at_latest;
-            }
-            at_latest = 0;
-        }
-        let bad = word & 3 != 0
-            || module >= lists.modules
-            || state == STRAY
-            || time >= lists.period
-            || time < latest
-            || at_latest >> module & 1 != 0;
+    for (place, record) in records.iter().enumerate().skip(openings.records) {
+        let word = state_word(record);
+        let module = (word >> MODULE_SHIFT) as usize % MODULES;
+        let code = word >> CODE_SHIFT & 31;
+        let time = word & SHIFTED_TIME_MASK;
+        let before = open[module];
+        let since = before >> STATE_BITS;
+        let bad = (word >= modules_end)
+            | (code > 23)
+            | (time >= period_end)
+            | (time < latest)
+            | (time <= since)
+            | (word & SPARE_MASK != 0);
         if bad {
             return Err(state_refusal(word, lists, place));
         }
-        at_latest |= 1 << module;
         latest = time;
-        let before = open[module];
-        counters[STATES_OF_A_MODULE * module + (before & 7) as usize] += time - (before >> 3);
-        open[module] = time << 3 | u64::from(state);
+        counters[module][(before & STATE_MASK) as usize] += time - since;
+        open[module] = time << STATE_BITS | u64::from(STATE_OF_CODE[code as usize]);
     }
-    if latest == 0 {
-        opened = at_latest;
-    }
-    let missing = !opened & (u64::MAX >> (MODULES - lists.modules));
+    let missing = !openings.modules & (u64::MAX >> (MODULES - lists.modules));
     if missing != 0 {
         return Err(Refusal::new(11, NO_LIST, missing.trailing_zeros() as usize));
     }
@@ -144,25 +136,59 @@ pub fn times(lists: &Lists) -> Result<Times, Refusal> {
         production: [0; MODULES],
     };
     for module in 0..lists.modules {
-        let own = STATES_OF_A_MODULE * module;
+        let own = &mut counters[module];
         let last = open[module];
-        counters[own + (last & 7) as usize] += lists.period - (last >> 3);
-        times.production[module] = counters[own];
-        times.uptime[module] = counters[own] + counters[own + 1] + counters[own + 2];
+        own[(last & STATE_MASK) as usize] += period_end - (last >> STATE_BITS);
+        times.production[module] = own[0] >> TIME_SHIFT;
+        times.uptime[module] = (own[0] + own[1] + own[2]) >> TIME_SHIFT;
     }
     Ok(times)
+}
+
+/// The records at time 0, which come first: how many, and of which modules.
+struct Openings {
+    records: usize,
+    modules: u64,
+}
+
+/// Tests the records at time 0 and opens their modules' first stretches.
+fn openings(
+    lists: &Lists,
+    records: &[[u8; 6]],
+    open: &mut [u64; MODULES],
+) -> Result<Openings, Refusal> {
+    let mut openings = Openings {
+        records: 0,
+        modules: 0,
+    };
+    for (place, record) in records.iter().enumerate() {
+        let word = state_word(record);
+        if word & (TIME_MASK << TIME_SHIFT) != 0 {
+            break;
+        }
+        let module = (word >> MODULE_SHIFT) as usize;
+        let code = word >> CODE_SHIFT & 31;
+        let twice = openings.modules >> module & 1 != 0;
+        if word & SPARE_MASK != 0 || module >= lists.modules || code > 23 || twice {
+            return Err(state_refusal(word, lists, place));
+        }
+        openings.modules |= 1 << module;
+        open[module] = u64::from(STATE_OF_CODE[code as usize]);
+        openings.records += 1;
+    }
+    Ok(openings)
 }
 
 /// The first ground that a state record known to be bad meets.
 #[cold]
 fn state_refusal(word: u64, lists: &Lists, place: usize) -> Refusal {
-    let number = if word & 3 != 0 {
+    let number = if word & SPARE_MASK != 0 {
         6
-    } else if (word >> 42) as usize >= lists.modules {
+    } else if (word >> MODULE_SHIFT) as usize >= lists.modules {
         7
-    } else if word >> 37 & 31 > 23 {
+    } else if word >> CODE_SHIFT & 31 > 23 {
         8
-    } else if word >> 2 & TIME_MASK >= lists.period {
+    } else if word >> TIME_SHIFT & TIME_MASK >= lists.period {
         9
     } else {
         10
