@@ -74,28 +74,57 @@ impl Standards {
         })
     }
 
-    /// The theoretical time in force.
-    #[inline(always)]
-    fn in_force(&self, recipe: u64, time: u64) -> Option<u64> {
-        let begin = usize::from(self.first[recipe as usize]);
-        let mut size = usize::from(self.first[recipe as usize + 1]) - begin;
-        let last = recipe << RECIPE_SHIFT | time << PLACE_BITS | PLACE_MASK;
-        let mut at = begin;
+    /// The standard in force, and up to where it is.
+    fn in_force(&self, sought: u64) -> Option<InForce> {
+        let recipe = (sought >> RECIPE_SHIFT) as usize;
+        let begin = usize::from(self.first[recipe]);
+        let end = usize::from(self.first[recipe + 1]);
+        let (mut at, mut size) = (begin, end - begin);
         while size > 1 {
             let half = size / 2;
             let middle = at + half;
-            at = if self.keys[middle % STANDARDS_MOST] <= last {
+            at = if self.keys[middle % STANDARDS_MOST] <= sought {
                 middle
             } else {
                 at
             };
             size -= half;
         }
-        let key = self.keys[at % STANDARDS_MOST];
-        if size == 0 || key > last {
+        let from = self.keys[at % STANDARDS_MOST];
+        if size == 0 || from > sought {
             return None;
         }
-        Some(u64::from(self.theoretical[(key & PLACE_MASK) as usize]))
+        let theoretical = u64::from(self.theoretical[(from & PLACE_MASK) as usize]);
+        let to = if at + 1 < end {
+            self.keys[at + 1]
+        } else {
+            (recipe as u64 + 1) << RECIPE_SHIFT
+        };
+        Some(InForce {
+            from,
+            to,
+            theoretical,
+        })
+    }
+}
+
+/// A standard and the keys that it is in force for: `from` up to, not including, `to`.
+struct InForce {
+    from: u64,
+    to: u64,
+    theoretical: u64,
+}
+
+impl InForce {
+    const NONE: InForce = InForce {
+        from: u64::MAX,
+        to: 0,
+        theoretical: 0,
+    };
+
+    #[inline(always)]
+    fn holds_for(&self, sought: u64) -> bool {
+        self.from <= sought && sought < self.to
     }
 }
 
@@ -113,16 +142,22 @@ fn theoretical(lists: &Lists, standards: &Standards) -> Result<Theoretical, Refu
         actual: [0; MODULES],
         effective: [0; MODULES],
     };
+    // Lots of one recipe often follow each other, so the standard found last is tried first.
+    let mut standard = InForce::NONE;
     for (place, record) in records::<11>(lists.units).iter().enumerate() {
         let unit = Unit::read(record);
         if unit.is_bad(lists) {
             return Err(unit.refusal(lists, place));
         }
-        let Some(theoretical) = standards.in_force(unit.recipe, unit.time) else {
-            return Err(Refusal::new(15, UNITS, place));
-        };
-        sums.actual[unit.module] += unit.actual * theoretical;
-        sums.effective[unit.module] += unit.effective * theoretical;
+        let sought = unit.recipe << RECIPE_SHIFT | unit.time << PLACE_BITS | PLACE_MASK;
+        if !standard.holds_for(sought) {
+            let Some(found) = standards.in_force(sought) else {
+                return Err(Refusal::new(15, UNITS, place));
+            };
+            standard = found;
+        }
+        sums.actual[unit.module] += unit.actual * standard.theoretical;
+        sums.effective[unit.module] += unit.effective * standard.theoretical;
     }
     Ok(sums)
 }
