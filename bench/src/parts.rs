@@ -286,7 +286,7 @@ pub fn print(
     let mut quantities = [Quantities::default(); MODULES];
     let mut tool = Quantities::default();
     let mut length = HEADING.len();
-    for module in 0..lists.modules {
+    for (module, slot) in quantities[..lists.modules].iter_mut().enumerate() {
         let own = Quantities {
             total: lists.period,
             uptime: times.uptime[module],
@@ -303,7 +303,7 @@ pub fn print(
         tool.actual += own.actual;
         tool.effective += own.effective;
         length += 1 + usize::from(module >= 10) + own.width() + 1;
-        quantities[module] = own;
+        *slot = own;
     }
     // Every other sum of the tool is at most its total.
     if tool.total > GREATEST_SUM {

@@ -295,15 +295,18 @@ fn no_time(rng: &mut Prng, draft: &mut Draft) -> Option<Refusal> {
 }
 
 fn twice(rng: &mut Prng, draft: &mut Draft) -> Option<Refusal> {
-    if draft.standards.len() as u64 >= MOST_STANDARDS {
-        return None;
-    }
     let first = place(rng, &draft.standards)?;
     let theoretical = edge_or_between(rng, 1, LONGEST_THEORETICAL);
     let copy = Standard {
         theoretical,
         ..draft.standards[first]
     };
+    if draft.standards.len() as u64 == MOST_STANDARDS {
+        // A full list: in the place of another.
+        let second = place(rng, &draft.standards)?;
+        draft.standards[second] = copy;
+        return (first != second).then(|| Refusal::new(13, STANDARDS, first.max(second)));
+    }
     let second = rng.index(draft.standards.len() + 1);
     draft.standards.insert(second, copy);
     // Where the copy comes first, the one copied is the later of the two.
@@ -370,30 +373,57 @@ fn production_times_of_any(draft: &Draft) -> Option<Vec<u64>> {
 }
 
 fn too_fast(rng: &mut Prng, draft: &mut Draft) -> Option<Refusal> {
+    if !can_fill(draft) {
+        return raise_to_most(rng, draft);
+    }
     let module = edge_or_between(rng, 0, draft.modules.min(MOST_MODULES).checked_sub(1)?);
     let room = room_of(draft, module)?;
-    if !can_fill(draft) {
-        return None;
-    }
-    if rng.once_in(3) {
-        // 1 ms too much.
-        fill(rng, draft, module, room);
-        draft.units.last_mut()?.actual += 1;
-    } else {
-        // Enough units of a standard that is long enough.
-        let shortest = room / MOST_OF_A_RECORD + 1;
-        let theoretical = edge_or_between(rng, shortest, LONGEST_THEORETICAL);
-        let recipe = unused_recipe(rng, draft);
-        let start = rng.below(draft.period);
-        let time = rng.between(start, draft.period - 1);
-        let actual = edge_or_between(rng, room / theoretical + 1, MOST_OF_A_RECORD);
-        let records = if rng.once_in(10) { 4 } else { 1 };
-        draft.standard(recipe, start, theoretical);
-        for _ in 0..records {
+    match rng.below(60) {
+        0 => far_too_fast(rng, draft, module),
+        1..=20 => {
+            // 1 ms too much.
+            fill(rng, draft, module, room);
+            draft.units.last_mut()?.actual += 1;
+        }
+        _ => {
+            // Enough units of a standard that is long enough.
+            let shortest = room / MOST_OF_A_RECORD + 1;
+            let theoretical = edge_or_between(rng, shortest, LONGEST_THEORETICAL);
+            let actual = edge_or_between(rng, room / theoretical + 1, MOST_OF_A_RECORD);
+            let (recipe, time) = new_standard(rng, draft, theoretical);
             draft.unit(module, recipe, time, actual, 0);
         }
     }
     rng.shuffle(&mut draft.units);
     rng.shuffle(&mut draft.standards);
     Some(Refusal::new(16, NO_LIST, module as usize))
+}
+
+/// A standard of an unused recipe, and a time at which it is in force.
+fn new_standard(rng: &mut Prng, draft: &mut Draft, theoretical: u64) -> (u64, u64) {
+    let recipe = unused_recipe(rng, draft);
+    let start = rng.below(draft.period);
+    draft.standard(recipe, start, theoretical);
+    (recipe, rng.between(start, draft.period - 1))
+}
+
+/// So many units that the module's sum, and with it the tool's, passes 2^53.
+fn far_too_fast(rng: &mut Prng, draft: &mut Draft, module: u64) {
+    let (recipe, time) = new_standard(rng, draft, LONGEST_THEORETICAL);
+    while (draft.units.len() as u64) < MOST_UNITS {
+        draft.unit(module, recipe, time, MOST_OF_A_RECORD, MOST_OF_A_RECORD);
+    }
+}
+
+/// In a full list, the units of one record raised as far as they go.
+fn raise_to_most(rng: &mut Prng, draft: &mut Draft) -> Option<Refusal> {
+    let place = place(rng, &draft.units)?;
+    let unit = draft.units[place];
+    let theoretical = in_force(draft, unit.recipe, unit.time)?;
+    let added = (MOST_OF_A_RECORD - unit.actual) * theoretical;
+    if added <= room_of(draft, unit.module)? {
+        return None;
+    }
+    draft.units[place].actual = MOST_OF_A_RECORD;
+    Some(Refusal::new(16, NO_LIST, unit.module as usize))
 }

@@ -40,9 +40,13 @@ fn flip_bits(rng: &mut Prng, bytes: &mut [u8], from: usize) {
     }
 }
 
+/// Random bytes in the place of a few, now and then of all records.
 fn overwrite(rng: &mut Prng, bytes: &mut [u8]) {
-    let start = rng.index(bytes.len());
-    let end = (start + 1 + rng.index(12)).min(bytes.len());
+    let mut start = rng.index(bytes.len());
+    let mut end = (start + 1 + rng.index(12)).min(bytes.len());
+    if rng.once_in(6) {
+        (start, end) = (HEADER_BYTES as usize, bytes.len());
+    }
     for byte in &mut bytes[start..end] {
         *byte = rng.draw() as u8;
     }
