@@ -15,6 +15,7 @@ const LARGE_ROOM: usize = 4_096;
 pub struct Comparison<'a> {
     log: &'a [u8],
     verdict: &'a Result<Account, Refusal>,
+    report: Result<Vec<u8>, Refusal>,
     pub differences: Vec<String>,
     pub short_buffers: u64,
 }
@@ -29,6 +30,10 @@ impl<'a> Comparison<'a> {
         let mut comparison = Comparison {
             log,
             verdict,
+            report: verdict
+                .as_ref()
+                .map(Account::report)
+                .map_err(|refusal| *refusal),
             differences: Vec::new(),
             short_buffers: 0,
         };
@@ -45,11 +50,14 @@ impl<'a> Comparison<'a> {
 
     /// Buffer lengths to try.
     fn rooms(&self) -> Vec<usize> {
-        match self.verdict {
-            Ok(account) => {
-                let length = account.report().len();
-                vec![0, length - 1, length, length + 1, LARGE_ROOM]
-            }
+        match &self.report {
+            Ok(report) => vec![
+                0,
+                report.len() - 1,
+                report.len(),
+                report.len() + 1,
+                LARGE_ROOM,
+            ],
             Err(_) => vec![0, 1, 183, 2_494, LARGE_ROOM],
         }
     }
@@ -90,15 +98,17 @@ impl<'a> Comparison<'a> {
         }
     }
 
-    fn expected_with_room(&self, room: usize) -> Result<(), Refusal> {
-        match self.verdict {
-            Ok(account) => account.fits(room),
+    /// The report that is due in a buffer with room for so many bytes, or the refusal.
+    fn report_with_room(&self, room: usize) -> Result<&[u8], Refusal> {
+        match &self.report {
+            Ok(report) if report.len() > room => Err(Refusal::of_log(18)),
+            Ok(report) => Ok(report),
             Err(refusal) => Err(*refusal),
         }
     }
 
     fn verdict_with_room(&mut self, room: usize) {
-        let expected = self.expected_with_room(room);
+        let expected = self.report_with_room(room).map(<[u8]>::len);
         if expected == Err(Refusal::of_log(18)) {
             self.short_buffers += 1;
         }
@@ -112,14 +122,9 @@ impl<'a> Comparison<'a> {
             .map(|at| (at * 31 + room) as u8)
             .collect();
         let mut lent = due.clone();
-        let mut due_length = 0;
-        if self.expected_with_room(room).is_ok() {
-            if let Ok(account) = self.verdict {
-                let report = account.report();
-                due_length = report.len();
-                due[MARGIN..MARGIN + due_length].copy_from_slice(&report);
-            }
-        }
+        let report = self.report_with_room(room).unwrap_or_default();
+        let due_length = report.len();
+        due[MARGIN..MARGIN + due_length].copy_from_slice(report);
         let length = library::report(self.log, &mut lent[MARGIN..MARGIN + room]);
         if length != due_length {
             self.differs(
