@@ -2,3 +2,4 @@ pub mod Bounds
 pub mod Sums
 pub mod Accepted
 pub mod ToolSums
+pub mod Judging
