@@ -68,6 +68,10 @@ module _ (l : Log) (g : Grounded l) where
   unfolding uptime
   production-uptime m = omega arith
 
+  whole : (m : ℕ) → m < l .modules → timeIn l 0 m + timeIn l 1 m + timeIn l 2 m + timeIn l 3 m + timeIn l 4 m + timeIn l 5 m ≡ l .period
+  unfolding timeIn
+  whole m h = six-times (l .states) (l .period) (l .modules) m (g .states) h
+
   pub time-le : (k m : ℕ) → timeIn l k m ≤ l .period
   unfolding timeIn
   time-le k m = state-time-le (l .states) (l .period) m k
@@ -84,15 +88,16 @@ module _ (l : Log) (g : Grounded l) where
           few = g .few;
           short = g .short;
           each = λ m h.
-          record {
-            effective-actual = effective-actual m;
-            actual-production = actual-production m h;
-            production-uptime = production-uptime m;
-            uptime-total = uptime-total m h;
-            some = g .begun;
-            few = omega (arith, g .short);
-          };
+              record {
+                effective-actual = effective-actual m;
+                actual-production = actual-production m h;
+                production-uptime = production-uptime m;
+                uptime-total = uptime-total m h;
+                some = g .begun;
+                few = omega (arith, g .short);
+              };
           times = λ k m h. time-le k m;
+          whole = whole;
         }
 
 -- ---- the tool

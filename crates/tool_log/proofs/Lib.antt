@@ -3,3 +3,4 @@ pub mod Sums
 pub mod Accepted
 pub mod ToolSums
 pub mod Judging
+pub mod Answers

@@ -61,11 +61,16 @@ test-sums-requires c κs =
     let t = g .before .before .before .before .before .before .before .tally-states in
     let u = g .before .before .credit-units in
     let e = g .before .before .before .before .before .enum-told4 .given .1 in
-    let d = g .enum-told6 .given .1 in
-    ((header-period s (header f) (h .result) (h .ensures) (t .result) (t .last .1 .1 .0) (t .last .1 .1 .1 .0) (t .ensures) e (u .result) (u .last .1 .1 .0) (u .last .1 .1 .1 .0) (u .ensures) d,
-    header-modules s (header f) (h .result) (h .ensures) (t .result) (t .last .1 .1 .0) (t .last .1 .1 .1 .0) (t .ensures) e (u .result) (u .last .1 .1 .0) (u .last .1 .1 .1 .0) (u .ensures) d),
-    (held s (header f) (h .result) (h .ensures) (t .result) (t .last .1 .1 .0) (t .last .1 .1 .1 .0) (t .ensures) e (u .result) (u .last .1 .1 .0) (u .last .1 .1 .1 .0) (u .ensures) d,
-    grounded s (header f) (h .result) (h .ensures) (t .result) (t .last .1 .1 .0) (t .last .1 .1 .1 .0) (t .ensures) e (u .result) (u .last .1 .1 .0) (u .last .1 .1 .1 .0) (u .ensures) d))
+    let d = g .enum-told6 .given .1 in (
+      (
+        header-period s (header f) (h .result) (h .ensures) (t .result) (t .last .1 .1 .0) (t .last .1 .1 .1 .0) (t .ensures) e (u .result) (u .last .1 .1 .0) (u .last .1 .1 .1 .0) (u .ensures) d,
+        header-modules s (header f) (h .result) (h .ensures) (t .result) (t .last .1 .1 .0) (t .last .1 .1 .1 .0) (t .ensures) e (u .result) (u .last .1 .1 .0) (u .last .1 .1 .1 .0) (u .ensures) d,
+      ),
+      (
+        held s (header f) (h .result) (h .ensures) (t .result) (t .last .1 .1 .0) (t .last .1 .1 .1 .0) (t .ensures) e (u .result) (u .last .1 .1 .0) (u .last .1 .1 .1 .0) (u .ensures) d,
+        grounded s (header f) (h .result) (h .ensures) (t .result) (t .last .1 .1 .0) (t .last .1 .1 .1 .0) (t .ensures) e (u .result) (u .last .1 .1 .0) (u .last .1 .1 .1 .0) (u .ensures) d,
+      ),
+    )
 
 returns-4 : tie.Need-returns-4
 returns-4 c =
