@@ -5,6 +5,7 @@ use e79::Printed;
 use e79::Quantities;
 use rules::Refusal;
 ghost use mathlib.Core.Path.{_≡_};
+ghost use mathlib.Core.List.{_++_};
 ghost use Prim.Native.Nat.{_+_, _≤_, _<_};
 ghost use lib.ListN.{length};
 ghost use Rattle.e79.specs.Quantities.{Ordered, Portion};
@@ -151,15 +152,22 @@ pub fn tool_line_length(q: Quantities) -> usize
     figures_length(q) + 4
 }
 
+// A label and a number behind it, for which 20 bytes are enough.
+fn put_labelled(buf: &mut [u8], at: usize, label: &[u8], n: usize) -> usize
+    requires { ⌜ at + length (now label) + 20 ≤ length (now buf) ⌝ }
+    ensures { λ r. ⌜ Put (now (label .entry) ++ decimal n) (now (buf .entry)) at r (now (buf .exit)) ⌝ }
+    ensures { λ r. ⌜ r ≤ at + length (now (label .entry)) + 20 ⌝ }
+{
+    let number = put_text(buf, at, label);
+    put_decimal(buf, number, n as u64)
+}
+
 // The line for a refused log, at the front of the buffer, and its length. Every refusal fits.
 pub fn put_refused_line(buf: &mut [u8; 80], x: Refusal) -> usize
     ensures { λ r. ⌜ PutRefused x (now (buf .entry)) r (now (buf .exit)) ⌝ }
 {
-    let word = put_text(buf, 0, b"refused ");
-    let number = put_decimal(buf, word, x.number as u64);
-    let list = put_text(buf, number, b" list ");
-    let of = put_decimal(buf, list, x.list as u64);
-    let place = put_text(buf, of, b" at ");
-    let last = put_decimal(buf, place, x.place as u64);
-    put_text(buf, last, b"\n")
+    let number = put_labelled(buf, 0, b"refused ", x.number);
+    let list = put_labelled(buf, number, b" list ", x.list);
+    let place = put_labelled(buf, list, b" at ", x.place);
+    put_text(buf, place, b"\n")
 }
