@@ -17,20 +17,19 @@ unfolding figure
 figure-space n d = omega arith
 
 -- a figure takes seven bytes with its space, and two where there is no base
-pub figure-length : (n d : ℕ) → length (figure n d) ≡ based d 2 7
-unfolding figure shown places printedOf based
-figure-length n zero = refl
-figure-length n (suc d) = refl
+pub figure-none : (n d : ℕ) → d ≡ 0 → 2 ≡ length (figure n d)
+unfolding figure shown printedOf based
+figure-none n d e = rw e
 
 pub figure-based : (n d : ℕ) → (d ≡ 0 → ⊥) → 7 ≡ length (figure n d)
-unfolding based
+unfolding figure shown places printedOf based
 figure-based n zero h = absurd (h refl)
-figure-based n (suc d) h = rw figure-length
+figure-based n (suc d) h = refl
 
-pub figure-length-le : (n d : ℕ) → length (figure n d) ≤ 7
-unfolding based
-figure-length-le n zero = rw figure-length (lit≤ tt)
-figure-length-le n (suc d) = rw figure-length (lit≤ tt)
+figure-length-le : (n d : ℕ) → length (figure n d) ≤ 7
+unfolding figure shown places printedOf based
+figure-length-le n zero = lit≤ tt
+figure-length-le n (suc d) = lit≤ tt
 
 pub figures-length : (q : Quantities) → length (figures q) ≡ length (figure (q .uptime) (q .total)) + length (figure (q .production) (q .uptime)) + length (figure (q .actual) (q .production)) + length (figure (q .effective) (q .actual)) + length (figure (q .effective) (q .total)) + 1
 unfolding figures
