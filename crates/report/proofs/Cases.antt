@@ -5,7 +5,6 @@ use lib.ListN.{length}
 use Rattle.e79.specs.declared.Quantities.{Quantities}
 use Rattle.e79.specs.Quantities.{based}
 use Rattle.e79.specs.Printed.{roundedOf, printedOf}
-use Rattle.rules.specs.declared.Refusal.{Refusal}
 use Rattle.report.specs.Text.{ascii}
 use Rattle.report.specs.Report.{short, decimalIn, decimal, places, shown, figure, figures, heading, tool, moduleLine, toolLine, moduleLines, reportOf, refusedLine}
 

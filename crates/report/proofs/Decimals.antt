@@ -1,6 +1,6 @@
 -- Numbers in decimal: a number is the digits before its last one, and the last. Assumes nothing.
 use mathlib.Core.Path.{_≡_, refl, sym, ap, _∙_}
-use mathlib.Core.List.{List, [], _∷_, _++_}
+use mathlib.Core.List.{[], _∷_, _++_}
 use Prim.Native.Nat.{ℕ, zero, suc, _+_, _/_, _^_, _≤_, _<_}
 use native.Mathlib.Nat.{pow-suc, div-lt-iff-lt-mul}
 use native.Mathlib.Decide.{decLt}
@@ -42,6 +42,9 @@ unfolding decimal
 decimal-more zero h = let no : ⊥ = omega arith in absurd no
 decimal-more (suc n) h = more-digits n (suc n) h ∙ ap (λ l. l ++ (digit (suc n) ∷ [])) (enough n (suc n / 10) (suc n / 10) (omega arith) (omega arith))
 
+pub decimal-more-length : (n : ℕ) → 10 ≤ n → length (decimal n) ≡ length (decimal (n / 10)) + 1
+decimal-more-length n h = ap length (decimal-more n h) ∙ length-append (decimal (n / 10)) (digit n ∷ [])
+
 -- a number below 100 has one digit or two
 pub short-decimal : (n : ℕ) → n < 100 → short n ≡ decimal n
 unfolding short
@@ -62,5 +65,5 @@ decimal-length (suc k) n h =
       | no b ↦
           let m : 10 ≤ n = omega arith in
           let l : n / 10 < 10 ^ suc k = div-lt-iff-lt-mul (lit< tt) .1 (rw pow-suc at h) in
-          rw (decimal-more n m, length-append) (omega (arith, decimal-length k (n / 10) l))
+          omega (arith, decimal-more-length n m, decimal-length k (n / 10) l)
     ]

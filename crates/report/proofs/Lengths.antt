@@ -1,6 +1,5 @@
 -- How many bytes the fields and the lines of the report take. Assumes nothing.
 use mathlib.Core.Path.{_≡_, refl}
-use mathlib.Core.List.{List, [], _∷_, _++_}
 use Prim.Native.Nat.{ℕ, zero, suc, _+_, _-_, _*_, _≤_, _<_}
 use native.Mathlib.Decide.{decLt}
 use native.Mathlib.Omega.{arith}
@@ -51,7 +50,7 @@ pub tool-length : (q : Quantities) → length (toolLine q) ≡ 4 + length (figur
 unfolding toolLine tool
 tool-length q = length-append tool (figures q)
 
-heading-length : length heading ≡ 32
+pub heading-length : length heading ≡ 32
 unfolding heading
 heading-length = refl
 

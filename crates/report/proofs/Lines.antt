@@ -1,9 +1,9 @@
 -- The report has one line more than the modules and the heading, each line ends in byte 10 and has no other inside, the first is the heading, and the last begins `tool`. Assumes nothing.
-use mathlib.Core.Path.{_≡_, refl, sym, ap, _∙_}
+use mathlib.Core.Path.{_≡_, refl, sym}
 use mathlib.Core.List.{List, [], _∷_, _++_, append-assoc, append-nil}
-use mathlib.Core.Bool.{cond, false}
-use Prim.Native.Nat.{ℕ, zero, suc, _+_, _/_, _<_, _≤_}
-use native.Mathlib.Nat.{add-assoc, add-zero, zero-add}
+use mathlib.Core.Bool.{false}
+use Prim.Native.Nat.{ℕ, zero, suc, _+_, _/_}
+use native.Mathlib.Nat.{add-assoc, zero-add}
 use native.Mathlib.Numerals.{add-one, add-two}
 use native.Mathlib.Decide.{decLt}
 use native.Mathlib.Omega.{arith}
@@ -14,7 +14,6 @@ use lib.Seq.{take-append-seam}
 use Rattle.e79.specs.declared.Quantities.{Quantities}
 use Rattle.e79.specs.declared.Printed.{Printed}
 use Rattle.e79.specs.declared.Printed.the-variants.{Figure, NoBase}
-use Rattle.e79.specs.Printed.{printedOf}
 use Rattle.report.specs.Text.{ascii}
 use Rattle.report.specs.Lines.{ends, Line, Lines, none, more, LastLine}
 use Rattle.report.specs.Report.{digit, short, places, shown, figure, figures, heading, tool, moduleLine, toolLine, moduleLines, reportOf}
