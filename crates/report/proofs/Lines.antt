@@ -84,11 +84,18 @@ unfolding toolLine tool ends
 tool-line q = behind tool refl (figures-line q)
 
 -- ---- the report
--- the heading and the modules' lines
-front-lines : (each : ℕ → Quantities) (n : ℕ) → Lines (suc n) (heading ++ moduleLines each n)
+-- the heading and the modules' lines, one more at a time
+pub front-none : (each : ℕ → Quantities) → heading ++ moduleLines each 0 ≡ heading
 unfolding moduleLines
-front-lines each zero = rw append-nil (more none heading-line)
-front-lines each (suc n) = rw (← append-assoc heading (moduleLines each n) (moduleLine n (each n))) (more (front-lines each n) (module-line n (each n)))
+front-none each = append-nil heading
+
+pub front-more : (each : ℕ → Quantities) (n : ℕ) → heading ++ moduleLines each (n + 1) ≡ heading ++ moduleLines each n ++ moduleLine n (each n)
+unfolding moduleLines
+front-more each n = rw (add-one, append-assoc)
+
+front-lines : (each : ℕ → Quantities) (n : ℕ) → Lines (suc n) (heading ++ moduleLines each n)
+front-lines each zero = rw front-none (more none heading-line)
+front-lines each (suc n) = rw (rw add-one at (front-more each n)) (more (front-lines each n) (module-line n (each n)))
 
 pub report-lines : (n : ℕ) (each : ℕ → Quantities) (whole : Quantities) → Lines (n + 2) (reportOf n each whole)
 unfolding reportOf

@@ -17,6 +17,9 @@ pub written-front : (s xs : List ℕ) → written s 0 xs ≡ xs ++ drop (length 
 unfolding written
 written-front s xs = rw zero-add
 
+pub front-text : (s xs : List ℕ) → take (length xs) (written s 0 xs) ≡ xs
+front-text s xs = rw written-front (take-append-seam xs (drop (length xs) s))
+
 module _ (s : List ℕ) (at : ℕ) (xs : List ℕ) (room : at + length xs ≤ length s) where
   starts : at ≤ length s
   starts = omega arith

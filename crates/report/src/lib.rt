@@ -1,6 +1,7 @@
 // The lines of the report and the line for a refused log, written from whole numbers into a buffer that the caller lends. Nothing here knows a log.
 //
-// The calls that write into a slice have a `requires`, so they are not for a buyer to link: they are called where room and order are shown.
+// A call that writes answers the place behind what it wrote. Those that write into a slice have a `requires`, so they are not for a buyer to link: they are
+// called where room and order are shown.
 use e79::Printed;
 use e79::Quantities;
 use rules::Refusal;
@@ -12,7 +13,7 @@ ghost use Rattle.e79.specs.Quantities.{Ordered, Portion};
 ghost use Rattle.report.specs.Report.{decimal, places, figure, figures, heading, moduleLine, toolLine, refusedLine, Put, LengthOf, FigureLength, ModuleLength, PutRefused};
 ghost use Rattle.report.specs.Report.{digit as Report·digit};
 
-// Copies a text into the buffer from `at` on, and answers the place behind it.
+// Copies a text into the buffer from `at` on.
 fn put_text(buf: &mut [u8], at: usize, text: &[u8]) -> usize
     requires { ⌜ at + length (now text) ≤ length (now buf) ⌝ }
     ensures { λ r. ⌜ Put (now (text .entry)) (now (buf .entry)) at r (now (buf .exit)) ⌝ }
@@ -46,7 +47,7 @@ fn put_decimal(buf: &mut [u8], at: usize, n: u64) -> usize
     }
 }
 
-// Ten-thousandths with four places.
+// Ten-thousandths with four places: 9702 is 0.9702.
 fn put_places(buf: &mut [u8], at: usize, p: u64) -> usize
     requires { ⌜ at + 6 ≤ length (now buf) ⌝ }
     ensures { λ r. ⌜ Put (places p) (now (buf .entry)) at r (now (buf .exit)) ⌝ }
@@ -76,7 +77,7 @@ fn put_figure(buf: &mut [u8], at: usize, n: u64, d: u64) -> usize
     }
 }
 
-// The five figures and the line's end.
+// The five figures and the line's end. Each name is the place behind that figure.
 fn put_figures(buf: &mut [u8], at: usize, q: Quantities) -> usize
     requires { ⌜ Ordered q ⌝ }
     requires { ⌜ at + length (figures q) ≤ length (now buf) ⌝ }
@@ -98,7 +99,7 @@ pub fn put_heading(buf: &mut [u8], at: usize) -> usize
     put_text(buf, at, b"module avail oper rate qual oee\n")
 }
 
-// The line of module m. The caller owes the room, and that the quantities are ordered.
+// The line of module m. The caller owes the room, a number below 100, and that the quantities are ordered.
 pub fn put_module_line(buf: &mut [u8], at: usize, m: usize, q: Quantities) -> usize
     requires { ⌜ m < 100 ⌝ }
     requires { ⌜ Ordered q ⌝ }
@@ -119,13 +120,14 @@ pub fn put_tool_line(buf: &mut [u8], at: usize, q: Quantities) -> usize
     put_figures(buf, name, q)
 }
 
-// How many bytes a figure takes, with its space.
+// How many bytes a figure takes with its space, by its denominator.
 fn figure_length(d: u64) -> usize
     ensures { λ r. ⌜ FigureLength d r ⌝ }
 {
     if d == 0 { 2 } else { 7 }
 }
 
+// How many bytes the five figures and the line's end take.
 fn figures_length(q: Quantities) -> usize
     ensures { λ r. ⌜ LengthOf (figures q) 36 r ⌝ }
 {
