@@ -1,6 +1,7 @@
 // What a buyer calls. No call has a `requires`: each takes every sequence of bytes, and answers or refuses.
 mod calls;
 mod judge;
+mod reports;
 mod summaries;
 
 pub use calls::module_figures;
@@ -11,6 +12,9 @@ pub use calls::tool_quantities;
 pub use calls::tool_state_times;
 use e79::Figures;
 use e79::Quantities;
+pub use reports::examine;
+pub use reports::report;
+pub use reports::write_report;
 use rules::Refusal;
 use rules::StateTimes;
 use rules::Verdict;
