@@ -4,3 +4,4 @@ pub mod Accepted
 pub mod ToolSums
 pub mod Judging
 pub mod Answers
+pub mod Reporting

@@ -1,22 +1,17 @@
+-- `tool_log::reports::line_length` meets its contract: the quantities are the module's.
+-- Assumes nothing.
 use borrow.Author.Needs.{needs}
+use mathlib.Core.Path.{_≡_, ap, _∙_}
+use lib.ListN.{length}
+use Rattle.e79.specs.declared.Quantities.{Quantities}
+use Rattle.report.specs.Report.{moduleLine}
 use Rattle.tool_log.proofs.reports.line_length.Statement.{statement}
 use Rattle.tool_log.proofs.reports.line_length.Tie as tie
-use Rattle.tool_log.proofs.reports.line_length.Reads as reads
-use Rattle.tool_log.proofs.reports.line_length.Lts as lts
-use Rattle.report.proofs.module_line_length.Reads as module-line-length-reads
-use Rattle.tool_log.proofs.summaries.quantities_of.Reads as quantities-of-reads
 
--- src/reports.rt:30:9
-quantities-of-requires : tie.Need-quantities-of-requires
-quantities-of-requires c κs = search needs
-
--- src/reports.rt:28:5
-module-line-length-requires : tie.Need-module-line-length-requires
-module-line-length-requires c κs = search needs
-
--- src/reports.rt:15:1
 returns : tie.Need-returns
-returns c = ?
+returns c =
+    let a = c .before .before .before .args in
+    (c .module-line-length .ensures .size ∙ ap (λ (q : Quantities). length (moduleLine (a .m) q)) (c .before .quantities-of .ensures), c .module-line-length .ensures .within)
 
 pub line-length-spec : {M : Type 1} → statement M
-line-length-spec = tie.close (tie.spec quantities-of-requires module-line-length-requires returns)
+line-length-spec = tie.close (tie.spec (λ c κs. search needs) (λ c κs. search needs) returns)
