@@ -74,13 +74,13 @@ pub accepted : (l : Log) → Passes l → verdict (encode l) ≡ Accepted
 unfolding recordGrounds
 accepted l p =
     let g : Grounded l
-            = record {
-                some = good-modules (l .modules) (p .modules) .0;
-                few = good-modules (l .modules) (p .modules) .1;
-                begun = good-period (l .period) (p .period) .0;
-                short = good-period (l .period) (p .period) .1;
-                states = p .states;
-                units = p .units;
-              } in
+    = record {
+      some = good-modules (l .modules) (p .modules) .0;
+      few = good-modules (l .modules) (p .modules) .1;
+      begun = good-period (l .period) (p .period) .0;
+      short = good-period (l .period) (p .period) .1;
+      states = p .states;
+      units = p .units;
+    } in
     let slow : firstOf (fastGround l) (l .modules) ≡ Accepted = all-first (fastGround l) (l .modules) (λ m h. not-fast l m (p .speeds m h)) in
     of-bytes l (p .fits) ∙ rw (p .period, p .modules, p .counts, p .states, p .standards, p .units) (sym (sums-good l g slow .answer))

@@ -142,7 +142,7 @@ former-credited = ap (λ (l : Log). actualTime l 0) (decode-encode (made (standa
 
 full-speed-report
     : reportText (decode (encode (made (standard 0 2 ∷ []) (units 0 5 5 ∷ []))))
-        ≡ ascii "module avail oper rate qual oee\n0 1.0000 1.0000 1.0000 1.0000 1.0000\ntool 1.0000 1.0000 1.0000 1.0000 1.0000\n"
+    ≡ ascii "module avail oper rate qual oee\n0 1.0000 1.0000 1.0000 1.0000 1.0000\ntool 1.0000 1.0000 1.0000 1.0000 1.0000\n"
 unfolding actualTime effectiveTime theoreticalTime credit inForce timeIn stateTime count codeAt isState stateOf uptime sumBelow short places shown figure figures heading tool moduleLine toolLine moduleLines reportOf reportText based roundedOf printedOf
 full-speed-report = ap reportText (decode-encode (made (standard 0 2 ∷ []) (units 0 5 5 ∷ [])) (full-speed .fits)) ∙ refl
 
@@ -175,18 +175,85 @@ to-one = refl
 
 pub starred : All cases
 unfolding headerGrounds verdict
-starred =
-    (refl, (refl,
-     (accepted _ longest-period, (too-long,
-     (accepted _ most-modules, (too-many-modules,
-     (accepted _ last-millisecond, (at-the-period,
-     (accepted _ greatest-code, (code-24,
-     (one-time-twice,
-     (accepted _ two-modules,
-     (accepted _ at-the-start, (newer-credited,
-     (accepted _ before-the-start, (former-credited, (no-standard,
-     (accepted _ all-effective, (more-effective,
-     (accepted _ full-speed, (full-speed-report, (too-fast,
-     (accepted _ no-uptime, (no-uptime-report, (no-uptime-product,
-     (half-up, (below-half,
-     (case-w-tool, (to-one, tt)))))))))))))))))))))))))))))
+starred = (
+  refl,
+  (
+    refl,
+    (
+      accepted _ longest-period,
+      (
+        too-long,
+        (
+          accepted _ most-modules,
+          (
+            too-many-modules,
+            (
+              accepted _ last-millisecond,
+              (
+                at-the-period,
+                (
+                  accepted _ greatest-code,
+                  (
+                    code-24,
+                    (
+                      one-time-twice,
+                      (
+                        accepted _ two-modules,
+                        (
+                          accepted _ at-the-start,
+                          (
+                            newer-credited,
+                            (
+                              accepted _ before-the-start,
+                              (
+                                former-credited,
+                                (
+                                  no-standard,
+                                  (
+                                    accepted _ all-effective,
+                                    (
+                                      more-effective,
+                                      (
+                                        accepted _ full-speed,
+                                        (
+                                          full-speed-report,
+                                          (
+                                            too-fast,
+                                            (
+                                              accepted _ no-uptime,
+                                              (
+                                                no-uptime-report,
+                                                (
+                                                  no-uptime-product,
+                                                  (
+                                                    half-up,
+                                                    (
+                                                      below-half,
+                                                      (case-w-tool, (to-one, tt)),
+                                                    ),
+                                                  ),
+                                                ),
+                                              ),
+                                            ),
+                                          ),
+                                        ),
+                                      ),
+                                    ),
+                                  ),
+                                ),
+                              ),
+                            ),
+                          ),
+                        ),
+                      ),
+                    ),
+                  ),
+                ),
+              ),
+            ),
+          ),
+        ),
+      ),
+    ),
+  ),
+)
