@@ -1,7 +1,7 @@
 -- How many bytes the fields and the lines of the report take. Assumes nothing.
 use mathlib.Core.Path.{_≡_, refl}
-use mathlib.Core.List.{List, [], _∷_, _++_}
-use Prim.Native.Nat.{ℕ, zero, suc, _+_, _≤_, _<_}
+use Prim.Native.Nat.{ℕ, zero, suc, _+_, _-_, _*_, _≤_, _<_}
+use native.Mathlib.Decide.{decLt}
 use native.Mathlib.Omega.{arith}
 use borrow.Author.Tests.{lt-ltb, le-ltb}
 use lib.Dec.{lit≤}
@@ -9,28 +9,26 @@ use lib.ListN.{length, length-append}
 use Rattle.e79.specs.declared.Quantities.{Quantities}
 use Rattle.e79.specs.Quantities.{based}
 use Rattle.e79.specs.Printed.{printedOf}
-use Rattle.rules.specs.declared.Refusal.{Refusal}
-use Rattle.report.specs.Report.{short, decimal, places, shown, figure, figures, tool, moduleLine, toolLine, refusedLine}
+use Rattle.report.specs.Report.{short, places, shown, figure, figures, heading, tool, moduleLine, toolLine, moduleLines, reportOf}
 
 pub figure-space : (n d : ℕ) → length (figure n d) ≡ length (shown (printedOf n d)) + 1
 unfolding figure
 figure-space n d = omega arith
 
 -- a figure takes seven bytes with its space, and two where there is no base
-pub figure-length : (n d : ℕ) → length (figure n d) ≡ based d 2 7
-unfolding figure shown places printedOf based
-figure-length n zero = refl
-figure-length n (suc d) = refl
+pub figure-none : (n d : ℕ) → d ≡ 0 → 2 ≡ length (figure n d)
+unfolding figure shown printedOf based
+figure-none n d e = rw e
 
 pub figure-based : (n d : ℕ) → (d ≡ 0 → ⊥) → 7 ≡ length (figure n d)
-unfolding based
+unfolding figure shown places printedOf based
 figure-based n zero h = absurd (h refl)
-figure-based n (suc d) h = rw figure-length
+figure-based n (suc d) h = refl
 
-pub figure-length-le : (n d : ℕ) → length (figure n d) ≤ 7
-unfolding based
-figure-length-le n zero = rw figure-length (lit≤ tt)
-figure-length-le n (suc d) = rw figure-length (lit≤ tt)
+figure-length-le : (n d : ℕ) → length (figure n d) ≤ 7
+unfolding figure shown places printedOf based
+figure-length-le n zero = lit≤ tt
+figure-length-le n (suc d) = lit≤ tt
 
 pub figures-length : (q : Quantities) → length (figures q) ≡ length (figure (q .uptime) (q .total)) + length (figure (q .production) (q .uptime)) + length (figure (q .actual) (q .production)) + length (figure (q .effective) (q .actual)) + length (figure (q .effective) (q .total)) + 1
 unfolding figures
@@ -52,6 +50,40 @@ pub tool-length : (q : Quantities) → length (toolLine q) ≡ 4 + length (figur
 unfolding toolLine tool
 tool-length q = length-append tool (figures q)
 
-pub refused-length : (x : Refusal) → length (refusedLine x) ≡ length (decimal (x .number)) + length (decimal (x .list)) + length (decimal (x .place)) + 19
-unfolding refusedLine
-refused-length x = simp length-append (omega arith)
+pub heading-length : length heading ≡ 32
+unfolding heading
+heading-length = refl
+
+-- ---- the longest report
+figures-length-le : (q : Quantities) → length (figures q) ≤ 36
+figures-length-le q =
+    omega (
+      arith,
+      figures-length q,
+      figure-length-le (q .uptime) (q .total),
+      figure-length-le (q .production) (q .uptime),
+      figure-length-le (q .actual) (q .production),
+      figure-length-le (q .effective) (q .actual),
+      figure-length-le (q .effective) (q .total),
+    )
+
+-- the lines of the first ten modules take a byte less each
+module-lines-length : (each : ℕ → Quantities) (n : ℕ) → length (moduleLines each n) + 10 ≤ 38 * n + (10 - n)
+unfolding moduleLines
+module-lines-length each zero = lit≤ tt
+module-lines-length each (suc n) =
+    let before = module-lines-length each n in
+    rw length-append
+    (elim (decLt n 10) [
+      | yes h ↦ omega (arith, before, module-length n (each n), short-one n h, figures-length-le (each n))
+      | no h ↦ omega (arith, before, module-length n (each n), short-two n (omega arith), figures-length-le (each n))
+    ])
+
+pub length-report : (n : ℕ) (each : ℕ → Quantities) (whole : Quantities) → n ≤ 64 → length (reportOf n each whole) ≤ 2494
+unfolding reportOf
+length-report n each whole h = simp length-append (omega (arith, module-lines-length each n, tool-length whole, figures-length-le whole, heading-length))
+
+-- 64 modules whose every figure has a base reach it
+pub length-reached : let q : Quantities = record { total = 1; uptime = 1; production = 1; actual = 1; effective = 1 } in length (reportOf 64 (λ m. q) q) ≡ 2494
+unfolding reportOf heading moduleLines moduleLine short toolLine tool figures figure shown places printedOf based
+length-reached = refl

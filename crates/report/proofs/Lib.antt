@@ -1,3 +1,5 @@
 pub mod Written
 pub mod Decimals
 pub mod Lengths
+pub mod Lines
+pub mod Cases

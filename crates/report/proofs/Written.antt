@@ -1,5 +1,5 @@
 -- A text written into a buffer: what the buffer keeps, and texts written one behind the other. Assumes nothing.
-use mathlib.Core.Path.{_≡_, refl, sym, ap, _∙_}
+use mathlib.Core.Path.{_≡_, ap, _∙_}
 use mathlib.Core.List.{List, [], _∷_, _++_, append-assoc, append-nil}
 use Prim.Native.Nat.{ℕ, zero, suc, _+_, _≤_}
 use native.Mathlib.Nat.{zero-add, suc-add, le-refl}
@@ -16,6 +16,9 @@ written-paste s at xs = rw (take-length, append-assoc)
 pub written-front : (s xs : List ℕ) → written s 0 xs ≡ xs ++ drop (length xs) s
 unfolding written
 written-front s xs = rw zero-add
+
+pub front-text : (s xs : List ℕ) → take (length xs) (written s 0 xs) ≡ xs
+front-text s xs = rw written-front (take-append-seam xs (drop (length xs) s))
 
 module _ (s : List ℕ) (at : ℕ) (xs : List ℕ) (room : at + length xs ≤ length s) where
   starts : at ≤ length s

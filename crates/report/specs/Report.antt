@@ -80,7 +80,7 @@ reportOf n each whole = heading ++ moduleLines each n ++ toolLine whole
 -- what a refused log prints: `refused N list L at P`, with that number, list and place
 unfoldable pub refusedLine : Refusal → List ℕ
 refusedLine x =
-    ascii "refused " ++ decimal (x .number) ++ ascii " list " ++ decimal (x .list) ++ ascii " at " ++ decimal (x .place) ++ ascii "\n"
+    (ascii "refused " ++ decimal (x .number)) ++ (ascii " list " ++ decimal (x .list)) ++ (ascii " at " ++ decimal (x .place)) ++ ascii "\n"
 
 -- a buffer with a text written into it from `at` on: what stands before and behind is as it was
 unfoldable pub written : List ℕ → ℕ → List ℕ → List ℕ

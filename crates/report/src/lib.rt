@@ -1,17 +1,19 @@
 // The lines of the report and the line for a refused log, written from whole numbers into a buffer that the caller lends. Nothing here knows a log.
 //
-// The calls that write into a slice have a `requires`, so they are not for a buyer to link: they are called where room and order are shown.
+// A call that writes answers the place behind what it wrote. Those that write into a slice have a `requires`, so they are not for a buyer to link: they are
+// called where room and order are shown.
 use e79::Printed;
 use e79::Quantities;
 use rules::Refusal;
 ghost use mathlib.Core.Path.{_≡_};
+ghost use mathlib.Core.List.{_++_};
 ghost use Prim.Native.Nat.{_+_, _≤_, _<_};
 ghost use lib.ListN.{length};
 ghost use Rattle.e79.specs.Quantities.{Ordered, Portion};
 ghost use Rattle.report.specs.Report.{decimal, places, figure, figures, heading, moduleLine, toolLine, refusedLine, Put, LengthOf, FigureLength, ModuleLength, PutRefused};
 ghost use Rattle.report.specs.Report.{digit as Report·digit};
 
-// Copies a text into the buffer from `at` on, and answers the place behind it.
+// Copies a text into the buffer from `at` on.
 fn put_text(buf: &mut [u8], at: usize, text: &[u8]) -> usize
     requires { ⌜ at + length (now text) ≤ length (now buf) ⌝ }
     ensures { λ r. ⌜ Put (now (text .entry)) (now (buf .entry)) at r (now (buf .exit)) ⌝ }
@@ -45,7 +47,7 @@ fn put_decimal(buf: &mut [u8], at: usize, n: u64) -> usize
     }
 }
 
-// Ten-thousandths with four places.
+// Ten-thousandths with four places: 9702 is 0.9702.
 fn put_places(buf: &mut [u8], at: usize, p: u64) -> usize
     requires { ⌜ at + 6 ≤ length (now buf) ⌝ }
     ensures { λ r. ⌜ Put (places p) (now (buf .entry)) at r (now (buf .exit)) ⌝ }
@@ -75,7 +77,7 @@ fn put_figure(buf: &mut [u8], at: usize, n: u64, d: u64) -> usize
     }
 }
 
-// The five figures and the line's end.
+// The five figures and the line's end. Each name is the place behind that figure.
 fn put_figures(buf: &mut [u8], at: usize, q: Quantities) -> usize
     requires { ⌜ Ordered q ⌝ }
     requires { ⌜ at + length (figures q) ≤ length (now buf) ⌝ }
@@ -97,7 +99,7 @@ pub fn put_heading(buf: &mut [u8], at: usize) -> usize
     put_text(buf, at, b"module avail oper rate qual oee\n")
 }
 
-// The line of module m. The caller owes the room, and that the quantities are ordered.
+// The line of module m. The caller owes the room, a number below 100, and that the quantities are ordered.
 pub fn put_module_line(buf: &mut [u8], at: usize, m: usize, q: Quantities) -> usize
     requires { ⌜ m < 100 ⌝ }
     requires { ⌜ Ordered q ⌝ }
@@ -118,13 +120,14 @@ pub fn put_tool_line(buf: &mut [u8], at: usize, q: Quantities) -> usize
     put_figures(buf, name, q)
 }
 
-// How many bytes a figure takes, with its space.
+// How many bytes a figure takes with its space, by its denominator.
 fn figure_length(d: u64) -> usize
     ensures { λ r. ⌜ FigureLength d r ⌝ }
 {
     if d == 0 { 2 } else { 7 }
 }
 
+// How many bytes the five figures and the line's end take.
 fn figures_length(q: Quantities) -> usize
     ensures { λ r. ⌜ LengthOf (figures q) 36 r ⌝ }
 {
@@ -151,15 +154,22 @@ pub fn tool_line_length(q: Quantities) -> usize
     figures_length(q) + 4
 }
 
+// A label and a number behind it, for which 20 bytes are enough.
+fn put_labelled(buf: &mut [u8], at: usize, label: &[u8], n: usize) -> usize
+    requires { ⌜ at + length (now label) + 20 ≤ length (now buf) ⌝ }
+    ensures { λ r. ⌜ Put (now (label .entry) ++ decimal n) (now (buf .entry)) at r (now (buf .exit)) ⌝ }
+    ensures { λ r. ⌜ r ≤ at + length (now (label .entry)) + 20 ⌝ }
+{
+    let number = put_text(buf, at, label);
+    put_decimal(buf, number, n as u64)
+}
+
 // The line for a refused log, at the front of the buffer, and its length. Every refusal fits.
 pub fn put_refused_line(buf: &mut [u8; 80], x: Refusal) -> usize
     ensures { λ r. ⌜ PutRefused x (now (buf .entry)) r (now (buf .exit)) ⌝ }
 {
-    let word = put_text(buf, 0, b"refused ");
-    let number = put_decimal(buf, word, x.number as u64);
-    let list = put_text(buf, number, b" list ");
-    let of = put_decimal(buf, list, x.list as u64);
-    let place = put_text(buf, of, b" at ");
-    let last = put_decimal(buf, place, x.place as u64);
-    put_text(buf, last, b"\n")
+    let number = put_labelled(buf, 0, b"refused ", x.number);
+    let list = put_labelled(buf, number, b" list ", x.list);
+    let place = put_labelled(buf, list, b" at ", x.place);
+    put_text(buf, place, b"\n")
 }

@@ -13,13 +13,14 @@ use Rattle.records.specs.declared.UnitRecord.{UnitRecord}
 use Rattle.records.specs.Log.{Log}
 use Rattle.e79.specs.Quantities.{Ordered}
 use Rattle.rules.specs.declared.Verdict.{Verdict}
-use Rattle.rules.specs.declared.Verdict.the-variants.{Accepted}
+use Rattle.rules.specs.declared.Refusal.{Refusal}
+use Rattle.rules.specs.declared.Verdict.the-variants.{Accepted, Refused}
 use Rattle.rules.specs.Grounds.{ground, _then_, firstOf, inTurn}
 use Rattle.rules.specs.Theoretical.{inForce, timeOf, credit, theoreticalTime}
 use Rattle.rules.specs.RecordGrounds.{isNone, unitGround, unitGrounds}
 use Rattle.rules.specs.Quantities.{timeIn, uptime, actualTime, effectiveTime, sumBelow, ofModule, ofTool, toolTimes}
 use Rattle.rules.specs.Verdict.{fastGround, isOver, anyOver, anyTimeOver, sumGrounds}
-use Rattle.rules.proofs.FirstGround.{then-left, then-right, not-met, first-all}
+use Rattle.rules.proofs.FirstGround.{then-left, then-right, refused-not, not-met, first-all}
 use Rattle.states.proofs.SixTimes.{state-time-le, six-times}
 use Rattle.tool_log.specs.Working.{Grounded, Sound, Summed}
 use Rattle.tool_log.proofs.Sums.{sum-le, sum-each, sum-low}
@@ -67,6 +68,10 @@ module _ (l : Log) (g : Grounded l) where
   unfolding uptime
   production-uptime m = omega arith
 
+  whole : (m : ℕ) → m < l .modules → timeIn l 0 m + timeIn l 1 m + timeIn l 2 m + timeIn l 3 m + timeIn l 4 m + timeIn l 5 m ≡ l .period
+  unfolding timeIn
+  whole m h = six-times (l .states) (l .period) (l .modules) m (g .states) h
+
   pub time-le : (k m : ℕ) → timeIn l k m ≤ l .period
   unfolding timeIn
   time-le k m = state-time-le (l .states) (l .period) m k
@@ -83,15 +88,16 @@ module _ (l : Log) (g : Grounded l) where
           few = g .few;
           short = g .short;
           each = λ m h.
-          record {
-            effective-actual = effective-actual m;
-            actual-production = actual-production m h;
-            production-uptime = production-uptime m;
-            uptime-total = uptime-total m h;
-            some = g .begun;
-            few = omega (arith, g .short);
-          };
+              record {
+                effective-actual = effective-actual m;
+                actual-production = actual-production m h;
+                production-uptime = production-uptime m;
+                uptime-total = uptime-total m h;
+                some = g .begun;
+                few = omega (arith, g .short);
+              };
           times = λ k m h. time-le k m;
+          whole = whole;
         }
 
 -- ---- the tool
@@ -137,3 +143,34 @@ module _ (l : Log) (s : Sound l) where
         state-within 4,
         state-within 5,
       )
+
+-- ---- the sums tested
+
+module _ (l : Log) (g : Grounded l) where
+  pub sums-fast : (v : Verdict) (x : Refusal) → v ≡ Refused x → v ≡ firstOf (fastGround l) (l .modules) → Summed l v
+  unfolding sumGrounds
+  sums-fast v x e f =
+      record {
+        answer = e ∙ sym (ap (λ (w : Verdict). w then ground 17 0 0 (anyOver (ofTool l) || anyTimeOver (toolTimes l))) (sym f ∙ e));
+        sound = λ a. absurd (refused-not (sym e ∙ a));
+      }
+
+  module _ (fast : firstOf (fastGround l) (l .modules) ≡ Accepted) where
+    decided : sumGrounds l ≡ ground 17 0 0 (anyOver (ofTool l) || anyTimeOver (toolTimes l))
+    unfolding sumGrounds
+    decided = ap (λ (w : Verdict). w then ground 17 0 0 (anyOver (ofTool l) || anyTimeOver (toolTimes l))) fast
+
+    -- both tests for 17 fail
+    pub sums-good : Summed l Accepted
+    sums-good = record { answer = sym (decided ∙ ap (ground 17 0 0) (none-over l (sound l g fast))); sound = λ e. sound l g fast }
+
+    -- neither can hold
+    pub sums-never : (b : Bool) → b ≡ true → (b ≡ true → anyOver (ofTool l) || anyTimeOver (toolTimes l) ≡ true) → (v : Verdict) → Summed l v
+    sums-never b e h v = let z : true ≡ false = sym (h e) ∙ none-over l (sound l g fast) in let q : _≡_ {A = ℕ} 0 1 = cc in absurd (omega arith)
+
+pub left-over : (a b : Bool) → a ≡ true → a || b ≡ true
+left-over a b e = rw e
+
+pub right-over : (a b : Bool) → b ≡ true → a || b ≡ true
+right-over true b e = refl
+right-over false b e = e

@@ -34,3 +34,9 @@ sum-each p (suc n) = rw (sum-each p n, mul-suc p n)
 -- none above a bound
 pub sum-low : (f : ℕ → ℕ) (bound n : ℕ) → ((m : ℕ) → m < n → f m ≤ bound) → sumBelow f n ≤ bound * n
 sum-low f bound n h = rw (← sum-each bound n) (sum-le f (λ m. bound) n h)
+
+-- two sums are one
+pub sum-add : (f g : ℕ → ℕ) (n : ℕ) → sumBelow f n + sumBelow g n ≡ sumBelow (λ m. f m + g m) n
+unfolding sumBelow
+sum-add f g zero = refl
+sum-add f g (suc n) = omega (arith, sum-add f g n)

@@ -1,1 +1,4 @@
 pub mod Working
+pub mod Calls
+pub mod Summaries
+pub mod Reports

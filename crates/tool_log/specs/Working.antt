@@ -34,6 +34,7 @@ pub record Sound (l : Log) : Type 0 where
   pub short : l .period ≤ 31622400000
   pub each : (m : ℕ) → m < l .modules → Ordered (ofModule l m)
   pub times : (k m : ℕ) → m < l .modules → timeIn l k m ≤ l .period
+  pub whole : (m : ℕ) → m < l .modules → timeIn l 0 m + timeIn l 1 m + timeIn l 2 m + timeIn l 3 m + timeIn l 4 m + timeIn l 5 m ≡ l .period
 
 -- the sums tested
 pub record Summed (l : Log) (r : Verdict) : Type 0 where

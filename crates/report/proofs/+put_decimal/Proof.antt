@@ -1,14 +1,14 @@
 -- The proof of the cycle of calls {put_decimal}. A number is the digits before its last one, which the call of itself writes, and the last. The measure is the number.
 -- Assumes nothing.
 use borrow.Author.Needs.{needs}
-use mathlib.Core.Path.{_≡_, refl, sym, ap, _∙_}
+use mathlib.Core.Path.{refl, sym, ap, _∙_}
 use mathlib.Core.List.{[], _∷_, _++_}
+use Prim.Native.Nat.{ℕ, _/_, _<_}
 use native.Mathlib.Omega.{arith}
-use lib.ListN.{length, length-append}
-use Rattle.report.specs.Report.{digit, decimal}
+use lib.ListN.{length}
+use Rattle.report.specs.Report.{decimal}
 use Rattle.report.proofs.Written.{then, read-as}
-use Rattle.report.proofs.Decimals.{decimal-below, decimal-more}
-use Prim.Native.Nat.{ℕ, _+_, _/_, _≤_, _<_}
+use Rattle.report.proofs.Decimals.{decimal-below, decimal-more, decimal-more-length}
 use borrow.Fn.Kinds.{In}
 use borrow.Fn.PlainCycle.{Measures, is, falls, and}
 use Rattle.report.proofs.put_decimal.Reads as put-decimal
@@ -34,9 +34,6 @@ put-decimal-below t =
 abbrev called : ℕ → put-decimal-lts.Claims
 called t = (digit-reads.Asked, digit-reads.Learnt, put-text-reads.Asked, put-text-reads.Learnt, put-decimal-below t, put-decimal.Post)
 
-one-more : (n : ℕ) → 10 ≤ n → length (decimal n) ≡ length (decimal (n / 10)) + 1
-one-more n h = ap length (decimal-more n h) ∙ length-append (decimal (n / 10)) (digit n ∷ [])
-
 put-decimal-digit-requires : (t : ℕ) → put-decimal-lts.Need-digit-requires (called t) (put-decimal-at t) put-decimal.Post
 put-decimal-digit-requires t c κs = tt
 
@@ -51,7 +48,7 @@ put-decimal-put-text-requires t c κs =
 put-decimal-put-decimal-requires : (t : ℕ) → put-decimal-lts.Need-put-decimal-requires (called t) (put-decimal-at t) put-decimal.Post
 put-decimal-put-decimal-requires t c κs =
     let test = c .before in
-    omega (arith, one-more (test .before .before .before .args .n) (test .if1 .left))
+    omega (arith, decimal-more-length (test .before .before .before .args .n) (test .if1 .left))
 
 put-decimal-slice-aggregate-put-text-2 : (t : ℕ) → put-decimal-lts.Need-slice-aggregate-put-text-2 (called t) (put-decimal-at t) put-decimal.Post
 put-decimal-slice-aggregate-put-text-2 t c = refl
@@ -59,7 +56,7 @@ put-decimal-slice-aggregate-put-text-2 t c = refl
 put-decimal-put-text-requires-2 : (t : ℕ) → put-decimal-lts.Need-put-text-requires-2 (called t) (put-decimal-at t) put-decimal.Post
 put-decimal-put-text-requires-2 t c κs =
     let test = c .before .before .before .before .before .before in
-    omega (arith, one-more (test .before .before .before .args .n) (test .if1 .left))
+    omega (arith, decimal-more-length (test .before .before .before .args .n) (test .if1 .left))
 
 put-decimal-same-length : (t : ℕ) → put-decimal-lts.Need-same-length (called t) (put-decimal-at t) put-decimal.Post
 put-decimal-same-length t c = c .before .before .put-text .kept .0

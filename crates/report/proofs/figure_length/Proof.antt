@@ -1,13 +1,11 @@
--- `report::figure_length` meets its contract: the test of the denominator is that of `based`. Assumes nothing.
+-- `report::figure_length` meets its contract: a figure takes two bytes exactly where the denominator is 0. Assumes nothing.
 use lib.Dec.{lit≤}
-use Rattle.e79.specs.Quantities.{based}
-use Rattle.report.proofs.Lengths.{figure-length, figure-based}
+use Rattle.report.proofs.Lengths.{figure-none, figure-based}
 use Rattle.report.proofs.figure_length.Statement.{statement}
 use Rattle.report.proofs.figure_length.Tie as tie
 
 returns : tie.Need-returns
-unfolding based
-returns c = record { size = λ n. rw (figure-length, c .if1 .taken); within = lit≤ tt }
+returns c = record { size = λ n. figure-none n _ (c .if1 .taken); within = lit≤ tt }
 
 returns-2 : tie.Need-returns-2
 returns-2 c = record { size = λ n. figure-based n _ (c .if1 .left); within = lit≤ tt }

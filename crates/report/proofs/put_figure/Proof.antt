@@ -1,10 +1,8 @@
 -- `report::put_figure` meets its contract: behind the space, each arm writes what `shown` has for it. Assumes nothing.
-use mathlib.Core.Path.{_≡_, sym, ap, _∙_}
+use mathlib.Core.Path.{sym, ap, _∙_}
 use mathlib.Core.List.{_++_}
 use native.Mathlib.Omega.{arith}
 use lib.ListN.{length}
-use Rattle.e79.specs.declared.Printed.the-variants.{Figure, NoBase}
-use Rattle.e79.specs.Printed.{printedOf}
 use Rattle.report.specs.Text.{ascii}
 use Rattle.report.specs.Report.{places, shown, figure}
 use Rattle.report.proofs.Written.{then, read-as}

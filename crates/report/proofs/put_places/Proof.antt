@@ -1,5 +1,8 @@
 -- `report::put_places` meets its contract: the array holds the digits and the point in their sequence. Assumes nothing.
-use Rattle.report.specs.Report.{places}
+use mathlib.Core.Path.{_≡_}
+use mathlib.Core.List.{[], _∷_}
+use Prim.Native.Nat.{ℕ, _/_}
+use Rattle.report.specs.Report.{digit, places}
 use Rattle.report.proofs.Written.{read-as}
 use borrow.Author.Needs.{needs}
 use Rattle.report.proofs.put_places.Statement.{statement}
@@ -29,9 +32,18 @@ put-text-requires c κs = search needs
 same-length : tie.Need-same-length
 same-length c = search needs
 
-returns : tie.Need-returns
+-- the text, from what is known of its digits
+text-is : (p : ℕ) {a b c d e : ℕ} → a ≡ digit (p / 10000) → b ≡ digit (p / 1000) → c ≡ digit (p / 100) → d ≡ digit (p / 10) → e ≡ digit p → a ∷ 46 ∷ b ∷ c ∷ d ∷ e ∷ [] ≡ places p
 unfolding places
-returns c = read-as (cc) (c .before .before .put-text .ensures)
+text-is p i j k l m = rw (i, j, k, l, m)
+
+returns : tie.Need-returns
+returns c =
+    let last = c .before .before .before .before .before in
+    let tenths = last .before .before .before in
+    read-as
+    (text-is (tenths .before .before .before .args .p) (tenths .before .digit .ensures) (tenths .digit2 .ensures) (last .before .before .digit3 .ensures) (last .before .digit4 .ensures) (last .digit5 .ensures))
+    (c .before .before .put-text .ensures)
 
 pub put-places-spec : {M : Type 1} → statement M
 put-places-spec =

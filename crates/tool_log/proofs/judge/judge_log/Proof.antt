@@ -1,87 +1,104 @@
+-- `tool_log::judge::judge_log` meets its contract: the header, the state records, the standards with the unit records, and the sums are tested in turn.
+-- Assumes nothing.
 use borrow.Author.Needs.{needs}
+use mathlib.Core.Path.{_≡_, sym, _∙_}
+use Rattle.records.specs.Log.{decode}
+use Rattle.rules.specs.declared.Verdict.the-variants.{Accepted}
+use Rattle.rules.specs.Verdict.{headerGrounds}
+use Rattle.tool_log.proofs.Judging.{counted, judged-header, judged-states, judged-units, judged-sums, held, grounded, header-period, header-modules}
 use Rattle.tool_log.proofs.judge.judge_log.Statement.{statement}
 use Rattle.tool_log.proofs.judge.judge_log.Tie as tie
-use Rattle.tool_log.proofs.judge.judge_log.Reads as reads
-use Rattle.tool_log.proofs.judge.judge_log.Lts as lts
-use Rattle.records.proofs.read_header.Reads as read-header-reads
-use Rattle.states.proofs.tally_states.Reads as tally-states-reads
-use Rattle.theoretical.proofs.credit_units.Reads as credit-units-reads
-use Rattle.tool_log.proofs.judge.test_header.Reads as test-header-reads
-use Rattle.tool_log.proofs.judge.test_sums.Reads as test-sums-reads
 
--- src/judge.rt:230:9
-read-header-requires : tie.Need-read-header-requires
-read-header-requires c κs = search needs
-
--- src/judge.rt:231:9
-test-header-requires : tie.Need-test-header-requires
-test-header-requires c κs = search needs
-
--- src/judge.rt:233:9
-enum-told : tie.Need-enum-told
-enum-told c = search needs
-
--- src/judge.rt:233:9
 returns : tie.Need-returns
-returns c = ?
+returns c =
+    let a = c .before .before .before .before .before .args in
+    let t = c .before .before .test-header in
+    judged-header (a .log .now) (t .result) _ (c .enum-told .given .1) (t .ensures) (a .totals .now) (a .uptime .now) (a .actual .now) (a .effective .now)
 
-enum-told-2 : tie.Need-enum-told-2
-enum-told-2 c = search needs
+-- the header is accepted
+header : (c : tie.After-enum-told2) → headerGrounds (c .before .before .before .before .before .args .log .now) ≡ Accepted
+header c = sym (c .before .before .test-header .ensures) ∙ c .enum-told2 .given .1
 
--- src/judge.rt:235:9
 tally-states-requires : tie.Need-tally-states-requires
-tally-states-requires c κs = ?
+tally-states-requires c κs =
+    let f = c .before .before in
+    let s = f .before .before .before .before .before in
+    let h = f .before .before .before .read-header in
+    (counted (s .args .log .now) (h .result) (h .ensures) (header f) .modules .1, (s .pre .0, s .pre .1))
 
--- src/judge.rt:237:9
-enum-told-3 : tie.Need-enum-told-3
-enum-told-3 c = search needs
-
--- src/judge.rt:237:9
 returns-2 : tie.Need-returns-2
-returns-2 c = ?
+returns-2 c =
+    let f = c .before .before .before .before .before in
+    let a = f .before .before .before .before .before .args in
+    let h = f .before .before .before .read-header in
+    let t = c .before .before .tally-states in
+    judged-states (a .log .now) (header f) (h .result) (h .ensures) (t .result) _ (t .last .1 .1 .0) (t .last .1 .1 .1 .0) (t .ensures) (c .enum-told3 .given .1) (a .actual .now) (a .effective .now)
 
-enum-told-4 : tie.Need-enum-told-4
-enum-told-4 c = search needs
-
--- src/judge.rt:239:9
 credit-units-requires : tie.Need-credit-units-requires
-credit-units-requires c κs = ?
+credit-units-requires c κs =
+    let f = c .before .before .before .before .before .before .before in
+    let s = f .before .before .before .before .before in
+    let h = f .before .before .before .read-header in
+    let n = counted (s .args .log .now) (h .result) (h .ensures) (header f) .counts in
+    ((n .1, n .2), (s .pre .2, s .pre .3))
 
--- src/judge.rt:241:9
-enum-told-5 : tie.Need-enum-told-5
-enum-told-5 c = search needs
-
--- src/judge.rt:241:9
 returns-3 : tie.Need-returns-3
-returns-3 c = ?
+returns-3 c =
+    let f = c .before .before .before .before .before .before .before .before .before .before in
+    let a = f .before .before .before .before .before .args in
+    let h = f .before .before .before .read-header in
+    let t = c .before .before .before .before .before .before .before .tally-states in
+    let u = c .before .before .credit-units in
+    judged-units (a .log .now) (header f) (h .result) (h .ensures) (t .result) (t .last .1 .1 .0) (t .last .1 .1 .1 .0) (t .ensures) (c .before .before .before .before .before .enum-told4 .given .1)
+    (u .result) _ (u .last .1 .1 .0) (u .last .1 .1 .1 .0) (u .ensures) (c .enum-told5 .given .1)
 
-enum-told-6 : tie.Need-enum-told-6
-enum-told-6 c = search needs
-
--- src/judge.rt:243:5
 test-sums-requires : tie.Need-test-sums-requires
-test-sums-requires c κs = ?
+test-sums-requires c κs =
+    let g = c .before .before .before .before in
+    let f = g .before .before .before .before .before .before .before .before .before .before in
+    let s = f .before .before .before .before .before .args .log .now in
+    let h = f .before .before .before .read-header in
+    let t = g .before .before .before .before .before .before .before .tally-states in
+    let u = g .before .before .credit-units in
+    let e = g .before .before .before .before .before .enum-told4 .given .1 in
+    let d = g .enum-told6 .given .1 in (
+      (
+        header-period s (header f) (h .result) (h .ensures) (t .result) (t .last .1 .1 .0) (t .last .1 .1 .1 .0) (t .ensures) e (u .result) (u .last .1 .1 .0) (u .last .1 .1 .1 .0) (u .ensures) d,
+        header-modules s (header f) (h .result) (h .ensures) (t .result) (t .last .1 .1 .0) (t .last .1 .1 .1 .0) (t .ensures) e (u .result) (u .last .1 .1 .0) (u .last .1 .1 .1 .0) (u .ensures) d,
+      ),
+      (
+        held s (header f) (h .result) (h .ensures) (t .result) (t .last .1 .1 .0) (t .last .1 .1 .1 .0) (t .ensures) e (u .result) (u .last .1 .1 .0) (u .last .1 .1 .1 .0) (u .ensures) d,
+        grounded s (header f) (h .result) (h .ensures) (t .result) (t .last .1 .1 .0) (t .last .1 .1 .1 .0) (t .ensures) e (u .result) (u .last .1 .1 .0) (u .last .1 .1 .1 .0) (u .ensures) d,
+      ),
+    )
 
--- src/judge.rt:220:1
 returns-4 : tie.Need-returns-4
-returns-4 c = ?
+returns-4 c =
+    let g = c .before .before .before .before .before in
+    let f = g .before .before .before .before .before .before .before .before .before .before in
+    let s = f .before .before .before .before .before .args .log .now in
+    let h = f .before .before .before .read-header in
+    let t = g .before .before .before .before .before .before .before .tally-states in
+    let u = g .before .before .credit-units in
+    judged-sums s (header f) (h .result) (h .ensures) (t .result) (t .last .1 .1 .0) (t .last .1 .1 .1 .0) (t .ensures) (g .before .before .before .before .before .enum-told4 .given .1)
+    (u .result) (u .last .1 .1 .0) (u .last .1 .1 .1 .0) (u .ensures) (g .enum-told6 .given .1) (c .test-sums .result) (c .test-sums .ensures)
 
 pub judge-log-spec : {M : Type 1} → statement M
 judge-log-spec =
     tie.close
     (tie.spec
-    read-header-requires
-    test-header-requires
-    enum-told
+    (λ c κs. search needs)
+    (λ c κs. search needs)
+    (λ c. search needs)
     returns
-    enum-told-2
+    (λ c. search needs)
     tally-states-requires
-    enum-told-3
+    (λ c. search needs)
     returns-2
-    enum-told-4
+    (λ c. search needs)
     credit-units-requires
-    enum-told-5
+    (λ c. search needs)
     returns-3
-    enum-told-6
+    (λ c. search needs)
     test-sums-requires
     returns-4)

@@ -38,7 +38,6 @@ returns c =
     let a = c .before .before .args in
     l .inv .1 ∙ ap (sumBelow (λ j. getD (a .values .now) j 0)) (omega (arith, l .inv .0, c .loop-test .left))
 
-
 pub sum-modules-spec : {M : Type 1} → statement M
 sum-modules-spec = tie.close (tie.spec Inv-loop μ-loop loop-holds
     (λ c. omega (arith, c .loop-test .taken, c .before .before .pre .0))

@@ -56,10 +56,11 @@ loop-again c =
     let s = c .before .before .before .before .before .before in
     let a = s .args in
     let l = c .before .before .before .before .loop in
-    let low = c .before .before .before .loop-test .taken in
-    (omega arith,
-    first-more (fastGround (decode (a .log .now))) (l .m) (l .inv .1)
-    (not-fast (decode (a .log .now)) (a .totals .now) (a .uptime .now) (a .actual .now) (a .effective .now) (s .pre .1) (l .m) (rw (← s .pre .0 .0) low) (c .if1 .left)))
+    let low = c .before .before .before .loop-test .taken in (
+      omega arith,
+      first-more (fastGround (decode (a .log .now))) (l .m) (l .inv .1)
+          (not-fast (decode (a .log .now)) (a .totals .now) (a .uptime .now) (a .actual .now) (a .effective .now) (s .pre .1) (l .m) (rw (← s .pre .0 .0) low) (c .if1 .left)),
+    )
 
 returns-2 : tie.Need-returns-2 Inv-loop μ-loop
 returns-2 c =

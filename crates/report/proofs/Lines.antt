@@ -1,0 +1,123 @@
+-- The report has one line more than the modules and the heading, each line ends in byte 10 and has no other inside, the first is the heading, and the last begins `tool`. Assumes nothing.
+use mathlib.Core.Path.{_≡_, refl, sym}
+use mathlib.Core.List.{List, [], _∷_, _++_, append-assoc, append-nil}
+use mathlib.Core.Bool.{false}
+use Prim.Native.Nat.{ℕ, zero, suc, _+_, _/_}
+use native.Mathlib.Nat.{add-assoc, zero-add}
+use native.Mathlib.Numerals.{add-one, add-two}
+use native.Mathlib.Decide.{decLt}
+use native.Mathlib.Omega.{arith}
+use borrow.Author.Tests.{lt-ltb, le-ltb, ne-eqb}
+use lib.Dec.{eqb}
+use lib.ListN.{length, take}
+use lib.Seq.{take-append-seam}
+use Rattle.e79.specs.declared.Quantities.{Quantities}
+use Rattle.e79.specs.declared.Printed.{Printed}
+use Rattle.e79.specs.declared.Printed.the-variants.{Figure, NoBase}
+use Rattle.report.specs.Text.{ascii}
+use Rattle.report.specs.Lines.{ends, Line, Lines, none, more, LastLine}
+use Rattle.report.specs.Report.{digit, short, places, shown, figure, figures, heading, tool, moduleLine, toolLine, moduleLines, reportOf}
+
+-- ---- line ends of texts put together
+ends-append : (s t : List ℕ) → ends (s ++ t) ≡ ends s + ends t
+unfolding ends
+ends-append [] t = sym (zero-add (ends t))
+ends-append (b ∷ s) t = rw (ends-append s t, add-assoc)
+
+no-ends : (s t : List ℕ) → ends s ≡ 0 → ends t ≡ 0 → ends (s ++ t) ≡ 0
+no-ends s t h k = rw (ends-append, h, k)
+
+line-ends : {s : List ℕ} → Line s → ends s ≡ 1
+unfolding ends
+line-ends l = rw (l .ending, ends-append, l .no-other)
+
+-- so many lines have so many line ends
+pub lines-ends : {n : ℕ} {s : List ℕ} → Lines n s → ends s ≡ n
+unfolding ends
+lines-ends none = refl
+lines-ends (more {n} {s} {x} l k) = rw (ends-append, lines-ends l, line-ends k) (add-one n)
+
+-- ---- no byte of a number or a figure is 10
+digit-other : (n : ℕ) → eqb (digit n) 10 ≡ false
+digit-other n = ne-eqb (digit n) 10 (λ e. omega arith)
+
+short-inside : (m : ℕ) → ends (short m) ≡ 0
+unfolding ends short
+short-inside m =
+    elim (decLt m 10) [
+      | yes h ↦ rw (lt-ltb m 10 h, digit-other)
+      | no h ↦ rw (le-ltb m 10 (omega arith), digit-other (m / 10), digit-other m)
+    ]
+
+shown-inside : (p : Printed) → ends (shown p) ≡ 0
+unfolding ends shown places
+shown-inside (Figure p) = simp digit-other
+shown-inside NoBase = refl
+
+figure-inside : (n d : ℕ) → ends (figure n d) ≡ 0
+unfolding figure ends
+figure-inside n d = rw shown-inside
+
+-- ---- each line
+behind : (s : List ℕ) {t : List ℕ} → ends s ≡ 0 → Line t → Line (s ++ t)
+behind s h l = record { inside = s ++ l .inside; ending = rw (l .ending, append-assoc); no-other = no-ends s (l .inside) h (l .no-other) }
+
+figures-line : (q : Quantities) → Line (figures q)
+unfolding figures
+figures-line q =
+    record {
+      inside = figure (q .uptime) (q .total) ++ figure (q .production) (q .uptime) ++ figure (q .actual) (q .production) ++ figure (q .effective) (q .actual) ++ figure (q .effective) (q .total);
+      ending = refl;
+      no-other = simp (ends-append, figure-inside);
+    }
+
+pub heading-line : Line heading
+unfolding heading ends
+heading-line = record { inside = ascii "module avail oper rate qual oee"; ending = refl; no-other = refl }
+
+pub module-line : (m : ℕ) (q : Quantities) → Line (moduleLine m q)
+unfolding moduleLine
+module-line m q = behind (short m) (short-inside m) (figures-line q)
+
+pub tool-line : (q : Quantities) → Line (toolLine q)
+unfolding toolLine tool ends
+tool-line q = behind tool refl (figures-line q)
+
+-- ---- the report
+-- the heading and the modules' lines, one more at a time
+pub front-none : (each : ℕ → Quantities) → heading ++ moduleLines each 0 ≡ heading
+unfolding moduleLines
+front-none each = append-nil heading
+
+pub front-more : (each : ℕ → Quantities) (n : ℕ) → heading ++ moduleLines each (n + 1) ≡ heading ++ moduleLines each n ++ moduleLine n (each n)
+unfolding moduleLines
+front-more each n = rw (add-one, append-assoc)
+
+front-lines : (each : ℕ → Quantities) (n : ℕ) → Lines (suc n) (heading ++ moduleLines each n)
+front-lines each zero = rw front-none (more none heading-line)
+front-lines each (suc n) = rw (rw add-one at (front-more each n)) (more (front-lines each n) (module-line n (each n)))
+
+pub report-lines : (n : ℕ) (each : ℕ → Quantities) (whole : Quantities) → Lines (n + 2) (reportOf n each whole)
+unfolding reportOf
+report-lines n each whole = rw add-two (more (front-lines each n) (tool-line whole))
+
+pub report-ends : (n : ℕ) (each : ℕ → Quantities) (whole : Quantities) → ends (reportOf n each whole) ≡ n + 2
+report-ends n each whole = lines-ends (report-lines n each whole)
+
+-- the first line is the heading
+pub report-first : (n : ℕ) (each : ℕ → Quantities) (whole : Quantities) → take (length heading) (reportOf n each whole) ≡ heading
+unfolding reportOf
+report-first n each whole = rw append-assoc (take-append-seam heading (moduleLines each n ++ toolLine whole))
+
+-- the last line, behind the heading and the modules' lines, is the tool's
+pub report-last : (n : ℕ) (each : ℕ → Quantities) (whole : Quantities) → LastLine (reportOf n each whole) (n + 1) (ascii "tool")
+unfolding reportOf toolLine tool
+report-last n each whole =
+    record {
+      front = heading ++ moduleLines each n;
+      last = toolLine whole;
+      whole = refl;
+      lines = rw add-one (front-lines each n);
+      line = tool-line whole;
+      begins = refl;
+    }
