@@ -1,45 +1,36 @@
 -- From what a call of `tool_log` answers to what its C function hands over.
 -- Assumes nothing.
-use mathlib.Core.Path.{_≡_, refl, sym, ap, _∙_, subst}
+use mathlib.Core.Path.{_≡_, refl, ap, _∙_, subst}
 use mathlib.Core.List.{List}
 use Prim.Native.Nat.{ℕ}
 use lib.Ieee.{Float}
 use Rattle.e79.specs.declared.Quantities.{Quantities}
-use Rattle.e79.specs.declared.Figures.{Figures}
 use Rattle.e79.specs.Doubles.{figuresOf}
 use Rattle.e79.specs.Accuracy.{Accurate}
 use Rattle.rules.specs.declared.Refusal.{Refusal}
+use Rattle.rules.specs.declared.StateTimes.{StateTimes}
 use Rattle.rules.specs.declared.Verdict.{Verdict}
 use Rattle.rules.specs.declared.Verdict.the-variants.{Accepted, Refused}
+use Rattle.tool_log.specs.declared.StateTimesAnswer.{StateTimesAnswer}
+use Rattle.tool_log.specs.declared.StateTimesAnswer.the-variants as times
+use Rattle.tool_log.specs.declared.QuantitiesAnswer.{QuantitiesAnswer}
+use Rattle.tool_log.specs.declared.QuantitiesAnswer.the-variants as quantities
 use Rattle.tool_log.specs.declared.FiguresAnswer.{FiguresAnswer}
-use Rattle.tool_log.specs.declared.FiguresAnswer.the-variants as answer
+use Rattle.tool_log.specs.declared.FiguresAnswer.the-variants as figures
 use Rattle.tool_log.specs.Calls.{answerOf, Given}
 use Rattle.tool_log.specs.Reports as reports
-use Rattle.tool_log.proofs.Answers.{Apart, figures-apart}
-use Rattle.tool_log_c.specs.Arrays.{ratiosOf, basesOf}
+use Rattle.tool_log_c.specs.Arrays.{timesOf, quantitiesOf, ratiosOf, basesOf}
 use Rattle.tool_log_c.specs.Told.{answerOr, Told}
+use Rattle.tool_log_c.specs.Answers.{timesVerdict, timesAfter, quantitiesVerdict, quantitiesAfter, figuresVerdict, ratiosAfter, basesAfter}
 use Rattle.tool_log_c.specs.Calls.{Promised, Examined, Numbers, Doubles}
 
-pub told-of : {v w : Verdict} {r : ℕ} {refusal : List ℕ} → v ≡ w → Told w r refusal → Told v r refusal
-told-of {v} {w} {r} {refusal} p t = subst (λ (x : Verdict). Told x r refusal) (sym p) t
+-- ---- for every kind of answer
 
-module _ {A R : Type 0} {answered : A → R} {refused : Refusal → R} (apart : Apart answered refused) {v : Verdict} {a : A} {Promise : A → Type 0} {Allowed : Refusal → Type 0} {r : R} (g : Given answered refused v a Promise Allowed r) where
-  -- an answer comes of an accepted log, and holds its value
-  found : (b : A) → r ≡ answered b → (v ≡ Accepted) × (b ≡ a)
-  found b e = at v refl (sym e ∙ g .answer)
-    where
-      at : (w : Verdict) → v ≡ w → answered b ≡ answerOf answered refused w a → (v ≡ Accepted) × (b ≡ a)
-      at Accepted p q = (p, apart .one-answer b a q)
-      at (Refused x) p q = absurd (apart .never b x q)
+told-of : {v w : Verdict} {r : ℕ} {refusal : List ℕ} → w ≡ v → Told w r refusal → Told v r refusal
+told-of {v} {w} {r} {refusal} p t = subst (λ (x : Verdict). Told x r refusal) p t
 
-  -- a refusal is the verdict's
-  turned-back : (x : Refusal) → r ≡ refused x → v ≡ Refused x
-  turned-back x e = at v refl (sym e ∙ g .answer)
-    where
-      at : (w : Verdict) → v ≡ w → refused x ≡ answerOf answered refused w a → v ≡ Refused x
-      at Accepted p q = absurd (apart .never a x (sym q))
-      at (Refused y) p q = p ∙ ap {B = Verdict} Refused (apart .one-refusal y x (sym q))
-
+module _ {A R : Type 0} {answered : A → R} {refused : Refusal → R} {v : Verdict} {a : A} {Promise : A → Type 0} {Allowed : Refusal → Type 0} {r : R} (g : Given answered refused v a Promise Allowed r) where
+  -- what is promised of an answer is promised of the verdict's value
   promised : Promised v (Promise a) Allowed
   promised =
       record {
@@ -47,40 +38,53 @@ module _ {A R : Type 0} {answered : A → R} {refused : Refusal → R} (apart : 
         refusal = λ x p. g .refusal x (g .answer ∙ ap (λ (w : Verdict). answerOf answered refused w a) p);
       }
 
-  -- what an array holds after either
-  answer-put : {X : Type 0} (f : A → List X) (before : List X) {after : List X} (b : A) → r ≡ answered b → after ≡ f b → after ≡ answerOr v (f a) before
-  answer-put f before b e q = q ∙ ap f (found b e .1) ∙ ap (λ (w : Verdict). answerOr w (f a) before) (sym (found b e .0))
+  -- the verdict in an answer, where it reads the two cases right
+  verdict-in : (read : R → Verdict) → ((b : A) → read (answered b) ≡ Accepted) → ((x : Refusal) → read (refused x) ≡ Refused x) → read r ≡ v
+  verdict-in read of-answer of-refusal = ap read (g .answer) ∙ at v
+    where
+      at : (w : Verdict) → read (answerOf answered refused w a) ≡ w
+      at Accepted = of-answer a
+      at (Refused x) = of-refusal x
 
-  answer-kept : {X : Type 0} (f : A → List X) (before : List X) (x : Refusal) → r ≡ refused x → before ≡ answerOr v (f a) before
-  answer-kept f before x e = ap (λ (w : Verdict). answerOr w (f a) before) (sym (turned-back x e))
+  -- what an array holds after an answer
+  after-in : {X : Type 0} (put : R → List X → List X) (f : A → List X) (before : List X) → ((b : A) → put (answered b) before ≡ f b)
+      → ((x : Refusal) → put (refused x) before ≡ before) → put r before ≡ answerOr v (f a) before
+  after-in put f before of-answer of-refusal = ap (λ (b : R). put b before) (g .answer) ∙ at v
+    where
+      at : (w : Verdict) → put (answerOf answered refused w a) before ≡ answerOr w (f a) before
+      at Accepted = of-answer a
+      at (Refused x) = of-refusal x
 
-  pub numbers-put : (f : A → List ℕ) (before : List ℕ) {flag : ℕ} {after refusal : List ℕ} (b : A) → r ≡ answered b → Told Accepted flag refusal → after ≡ f b
-      → Numbers v (f a) before (Promise a) Allowed flag after refusal
-  numbers-put f before b e t q = record { told = told-of (found b e .0) t; array = answer-put f before b e q; known = promised }
+-- ---- the calls
 
-  pub numbers-kept : (f : A → List ℕ) (before : List ℕ) {flag : ℕ} {refusal : List ℕ} (x : Refusal) → r ≡ refused x → Told (Refused x) flag refusal
-      → Numbers v (f a) before (Promise a) Allowed flag before refusal
-  numbers-kept f before x e t = record { told = told-of (turned-back x e) t; array = answer-kept f before x e; known = promised }
+pub examined : {s : List ℕ} {room : ℕ} {w : Verdict} {r : ℕ} {refusal : List ℕ} → reports.Examined s room w → Told w r refusal → Examined s room r refusal
+examined g t = record { told = told-of (g .answer) t; known = λ x p. g .refusal x (g .answer ∙ p) }
 
-module _ {v : Verdict} {q : Quantities} {Allowed : Refusal → Type 0} {r : FiguresAnswer} (g : Given answer.Answered answer.Refused v (figuresOf q) (Accurate q) Allowed r) (before : List Float) (basedBefore : List ℕ) {flag : ℕ} {refusal : List ℕ} where
-  pub doubles-put : {after : List Float} {based : List ℕ} (f : Figures) → r ≡ answer.Answered f → Told Accepted flag refusal → after ≡ ratiosOf f → based ≡ basesOf f
-      → Doubles v q before basedBefore Allowed flag after based refusal
-  doubles-put f e t p b =
+module _ {v : Verdict} {Allowed : Refusal → Type 0} {flag : ℕ} {refusal : List ℕ} where
+  pub times-told : {t : StateTimes} {Promise : StateTimes → Type 0} {r : StateTimesAnswer} {before after : List ℕ} → Given times.Answered times.Refused v t Promise Allowed r
+      → Told (timesVerdict r) flag refusal → after ≡ timesAfter r before → Numbers v (timesOf t) before (Promise t) Allowed flag after refusal
+  times-told {before = before} g t e =
       record {
-        told = told-of (found figures-apart g f e .0) t;
-        doubles = answer-put figures-apart g ratiosOf before f e p;
-        bases = answer-put figures-apart g basesOf basedBefore f e b;
-        known = promised figures-apart g;
+        told = told-of (verdict-in g timesVerdict (λ b. refl) (λ x. refl)) t;
+        array = e ∙ after-in g timesAfter timesOf before (λ b. refl) (λ x. refl);
+        known = promised g;
       }
 
-  pub doubles-kept : (x : Refusal) → r ≡ answer.Refused x → Told (Refused x) flag refusal → Doubles v q before basedBefore Allowed flag before basedBefore refusal
-  doubles-kept x e t =
+  pub quantities-told : {q : Quantities} {Promise : Quantities → Type 0} {r : QuantitiesAnswer} {before after : List ℕ} → Given quantities.Answered quantities.Refused v q Promise Allowed r
+      → Told (quantitiesVerdict r) flag refusal → after ≡ quantitiesAfter r before → Numbers v (quantitiesOf q) before (Promise q) Allowed flag after refusal
+  quantities-told {before = before} g t e =
       record {
-        told = told-of (turned-back figures-apart g x e) t;
-        doubles = answer-kept figures-apart g ratiosOf before x e;
-        bases = answer-kept figures-apart g basesOf basedBefore x e;
-        known = promised figures-apart g;
+        told = told-of (verdict-in g quantitiesVerdict (λ b. refl) (λ x. refl)) t;
+        array = e ∙ after-in g quantitiesAfter quantitiesOf before (λ b. refl) (λ x. refl);
+        known = promised g;
       }
 
-pub examined : {s : List ℕ} {room : ℕ} {w : Verdict} → reports.Examined s room w → {r : ℕ} {refusal : List ℕ} → Told w r refusal → Examined s room r refusal
-examined g t = record { told = told-of (sym (g .answer)) t; known = λ x p. g .refusal x (g .answer ∙ p) }
+  pub figures-told : {q : Quantities} {r : FiguresAnswer} {before after : List Float} {basedBefore based : List ℕ} → Given figures.Answered figures.Refused v (figuresOf q) (Accurate q) Allowed r
+      → Told (figuresVerdict r) flag refusal → after ≡ ratiosAfter r before → based ≡ basesAfter r basedBefore → Doubles v q before basedBefore Allowed flag after based refusal
+  figures-told {before = before} {basedBefore = basedBefore} g t e b =
+      record {
+        told = told-of (verdict-in g figuresVerdict (λ b. refl) (λ x. refl)) t;
+        doubles = e ∙ after-in g ratiosAfter ratiosOf before (λ b. refl) (λ x. refl);
+        bases = b ∙ after-in g basesAfter basesOf basedBefore (λ b. refl) (λ x. refl);
+        known = promised g;
+      }

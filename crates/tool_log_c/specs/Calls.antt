@@ -6,12 +6,10 @@ use Prim.Native.Nat.{ℕ}
 use lib.Ieee.{Float}
 use Rattle.records.specs.Log.{decode}
 use Rattle.e79.specs.declared.Quantities.{Quantities}
-use Rattle.e79.specs.declared.Figures.{Figures}
 use Rattle.e79.specs.Quantities.{Ordered}
 use Rattle.e79.specs.Doubles.{figuresOf}
 use Rattle.e79.specs.Accuracy.{Accurate}
 use Rattle.rules.specs.declared.Refusal.{Refusal}
-use Rattle.rules.specs.declared.StateTimes.{StateTimes}
 use Rattle.rules.specs.declared.Verdict.{Verdict}
 use Rattle.rules.specs.declared.Verdict.the-variants.{Accepted, Refused}
 use Rattle.rules.specs.Quantities.{moduleTimes, toolTimes, ofModule, ofTool}

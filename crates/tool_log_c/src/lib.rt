@@ -4,33 +4,33 @@ ghost use lib.Ieee.{nan};
 ghost use Rattle.tool_log.specs.Reports.{Written};
 ghost use Rattle.tool_log_c.specs.Arrays.{ratioOf, baseOf, timesOf, quantitiesOf, ratiosOf, basesOf};
 ghost use Rattle.tool_log_c.specs.Told.{Told};
+ghost use Rattle.tool_log_c.specs.Answers.{timesVerdict, timesAfter, quantitiesVerdict, quantitiesAfter, figuresVerdict, ratiosAfter, basesAfter};
 ghost use Rattle.tool_log_c.specs.Calls.{Examined, ModuleTimes, ToolTimes, ModuleQuantities, ToolQuantities, ModuleFigures, ToolFigures};
 use e79::Efficiency;
 use e79::Figures;
 use e79::Quantities;
-use rules::Refusal;
 use rules::StateTimes;
 use rules::Verdict;
 use tool_log::FiguresAnswer;
 use tool_log::QuantitiesAnswer;
 use tool_log::StateTimesAnswer;
 
-// ---- answers and refusals as numbers
+// ---- answers as numbers
 
-// Answers 0, and puts down why.
-fn refuse(x: Refusal, refusal: &mut [u64; 3]) -> u32
-    ensures { λ r. ⌜ Told (Verdict.Refused x) r (now (refusal .exit)) ⌝ }
+// 1 where the verdict accepts, else 0; and the refusal's array.
+fn tell(verdict: Verdict, refusal: &mut [u64; 3]) -> u32
+    ensures { λ r. ⌜ Told verdict r (now (refusal .exit)) ⌝ }
 {
-    *refusal = [x.number as u64, x.list as u64, x.place as u64];
-    0
-}
-
-// Answers 1, with nothing refused.
-fn accept(refusal: &mut [u64; 3]) -> u32
-    ensures { λ r. ⌜ Told Verdict.Accepted r (now (refusal .exit)) ⌝ }
-{
-    *refusal = [0, 0, 0];
-    1
+    match verdict {
+        Verdict::Accepted => {
+            *refusal = [0, 0, 0];
+            1
+        }
+        Verdict::Refused(x) => {
+            *refusal = [x.number as u64, x.list as u64, x.place as u64];
+            0
+        }
+    }
 }
 
 fn put_times(t: StateTimes, times: &mut [u64; 6])
@@ -46,10 +46,40 @@ fn put_times(t: StateTimes, times: &mut [u64; 6])
     ];
 }
 
+fn tell_times(answer: StateTimesAnswer, times: &mut [u64; 6], refusal: &mut [u64; 3]) -> u32
+    ensures { λ r. ⌜ Told (timesVerdict answer) r (now (refusal .exit)) ⌝ }
+    ensures { λ _. ⌜ now (times .exit) ≡ timesAfter answer (now (times .entry)) ⌝ }
+{
+    match answer {
+        StateTimesAnswer::Answered(t) => {
+            put_times(t, times);
+            tell(Verdict::Accepted, refusal)
+        }
+        StateTimesAnswer::Refused(x) => tell(Verdict::Refused(x), refusal),
+    }
+}
+
 fn put_quantities(q: Quantities, quantities: &mut [u64; 5])
     ensures { λ _. ⌜ now (quantities .exit) ≡ quantitiesOf q ⌝ }
 {
     *quantities = [q.total, q.uptime, q.production, q.actual, q.effective];
+}
+
+fn tell_quantities(
+    answer: QuantitiesAnswer,
+    quantities: &mut [u64; 5],
+    refusal: &mut [u64; 3],
+) -> u32
+    ensures { λ r. ⌜ Told (quantitiesVerdict answer) r (now (refusal .exit)) ⌝ }
+    ensures { λ _. ⌜ now (quantities .exit) ≡ quantitiesAfter answer (now (quantities .entry)) ⌝ }
+{
+    match answer {
+        QuantitiesAnswer::Answered(q) => {
+            put_quantities(q, quantities);
+            tell(Verdict::Accepted, refusal)
+        }
+        QuantitiesAnswer::Refused(x) => tell(Verdict::Refused(x), refusal),
+    }
 }
 
 // What stands where an efficiency has no base: no number at all.
@@ -109,18 +139,38 @@ fn put_bases(f: Figures, based: &mut [u8; 4])
     ];
 }
 
+fn tell_figures(
+    answer: FiguresAnswer,
+    figures: &mut [f64; 6],
+    based: &mut [u8; 4],
+    refusal: &mut [u64; 3],
+) -> u32
+    ensures { λ r. ⌜ Told (figuresVerdict answer) r (now (refusal .exit)) ⌝ }
+    ensures { λ _. ⌜ now (figures .exit) ≡ ratiosAfter answer (now (figures .entry)) ⌝ }
+    ensures { λ _. ⌜ now (based .exit) ≡ basesAfter answer (now (based .entry)) ⌝ }
+{
+    match answer {
+        FiguresAnswer::Answered(f) => {
+            put_figures(f, figures);
+            put_bases(f, based);
+            tell(Verdict::Accepted, refusal)
+        }
+        FiguresAnswer::Refused(x) => tell(Verdict::Refused(x), refusal),
+    }
+}
+
 // ---- the verdict and the report
 
+// Acceptance of a log and a buffer of `room` bytes for its report, or the refusal.
 #[no_mangle]
 pub extern "C" fn tl_examine(log: &[u8], room: usize, refusal: &mut [u64; 3]) -> u32
     ensures { λ r. ⌜ Examined (now (log .entry)) room r (now (refusal .exit)) ⌝ }
 {
-    match tool_log::examine(log, room) {
-        Verdict::Accepted => accept(refusal),
-        Verdict::Refused(x) => refuse(x, refusal),
-    }
+    tell(tool_log::examine(log, room), refusal)
 }
 
+// Writes the report to the front of the buffer and answers its length: 0, and no byte changed, in just the cases that `tl_examine` refuses for the
+// buffer's length.
 #[no_mangle]
 pub extern "C" fn tl_report(log: &[u8], buf: &mut [u8]) -> usize
     ensures { λ r. ⌜ Written (now (log .entry)) (now (buf .entry)) r (now (buf .exit)) ⌝ }
@@ -130,6 +180,7 @@ pub extern "C" fn tl_report(log: &[u8], buf: &mut [u8]) -> usize
 
 // ---- state times, quantities and figures
 
+// The six state times of module m.
 #[no_mangle]
 pub extern "C" fn tl_module_state_times(
     log: &[u8],
@@ -139,15 +190,10 @@ pub extern "C" fn tl_module_state_times(
 ) -> u32
     ensures { λ r. ⌜ ModuleTimes (now (log .entry)) m (now (times .entry)) r (now (times .exit)) (now (refusal .exit)) ⌝ }
 {
-    match tool_log::module_state_times(log, m) {
-        StateTimesAnswer::Answered(t) => {
-            put_times(t, times);
-            accept(refusal)
-        }
-        StateTimesAnswer::Refused(x) => refuse(x, refusal),
-    }
+    tell_times(tool_log::module_state_times(log, m), times, refusal)
 }
 
+// The tool's, which sum those of its modules.
 #[no_mangle]
 pub extern "C" fn tl_tool_state_times(
     log: &[u8],
@@ -156,15 +202,10 @@ pub extern "C" fn tl_tool_state_times(
 ) -> u32
     ensures { λ r. ⌜ ToolTimes (now (log .entry)) (now (times .entry)) r (now (times .exit)) (now (refusal .exit)) ⌝ }
 {
-    match tool_log::tool_state_times(log) {
-        StateTimesAnswer::Answered(t) => {
-            put_times(t, times);
-            accept(refusal)
-        }
-        StateTimesAnswer::Refused(x) => refuse(x, refusal),
-    }
+    tell_times(tool_log::tool_state_times(log), times, refusal)
 }
 
+// The five quantities of module m.
 #[no_mangle]
 pub extern "C" fn tl_module_quantities(
     log: &[u8],
@@ -174,15 +215,10 @@ pub extern "C" fn tl_module_quantities(
 ) -> u32
     ensures { λ r. ⌜ ModuleQuantities (now (log .entry)) m (now (quantities .entry)) r (now (quantities .exit)) (now (refusal .exit)) ⌝ }
 {
-    match tool_log::module_quantities(log, m) {
-        QuantitiesAnswer::Answered(q) => {
-            put_quantities(q, quantities);
-            accept(refusal)
-        }
-        QuantitiesAnswer::Refused(x) => refuse(x, refusal),
-    }
+    tell_quantities(tool_log::module_quantities(log, m), quantities, refusal)
 }
 
+// The tool's.
 #[no_mangle]
 pub extern "C" fn tl_tool_quantities(
     log: &[u8],
@@ -191,15 +227,10 @@ pub extern "C" fn tl_tool_quantities(
 ) -> u32
     ensures { λ r. ⌜ ToolQuantities (now (log .entry)) (now (quantities .entry)) r (now (quantities .exit)) (now (refusal .exit)) ⌝ }
 {
-    match tool_log::tool_quantities(log) {
-        QuantitiesAnswer::Answered(q) => {
-            put_quantities(q, quantities);
-            accept(refusal)
-        }
-        QuantitiesAnswer::Refused(x) => refuse(x, refusal),
-    }
+    tell_quantities(tool_log::tool_quantities(log), quantities, refusal)
 }
 
+// The set of doubles of module m, and which of the four efficiencies have a base.
 #[no_mangle]
 pub extern "C" fn tl_module_figures(
     log: &[u8],
@@ -210,16 +241,10 @@ pub extern "C" fn tl_module_figures(
 ) -> u32
     ensures { λ r. ⌜ ModuleFigures (now (log .entry)) m (now (figures .entry)) (now (based .entry)) r (now (figures .exit)) (now (based .exit)) (now (refusal .exit)) ⌝ }
 {
-    match tool_log::module_figures(log, m) {
-        FiguresAnswer::Answered(f) => {
-            put_figures(f, figures);
-            put_bases(f, based);
-            accept(refusal)
-        }
-        FiguresAnswer::Refused(x) => refuse(x, refusal),
-    }
+    tell_figures(tool_log::module_figures(log, m), figures, based, refusal)
 }
 
+// The tool's.
 #[no_mangle]
 pub extern "C" fn tl_tool_figures(
     log: &[u8],
@@ -229,12 +254,5 @@ pub extern "C" fn tl_tool_figures(
 ) -> u32
     ensures { λ r. ⌜ ToolFigures (now (log .entry)) (now (figures .entry)) (now (based .entry)) r (now (figures .exit)) (now (based .exit)) (now (refusal .exit)) ⌝ }
 {
-    match tool_log::tool_figures(log) {
-        FiguresAnswer::Answered(f) => {
-            put_figures(f, figures);
-            put_bases(f, based);
-            accept(refusal)
-        }
-        FiguresAnswer::Refused(x) => refuse(x, refusal),
-    }
+    tell_figures(tool_log::tool_figures(log), figures, based, refusal)
 }

@@ -1,19 +1,12 @@
--- `tool_log_c::tl_module_figures` meets its contract: the answer's doubles and bases are put into the arrays, and a refusal leaves both as they were.
+-- `tool_log_c::tl_module_figures` meets its contract: what `module_figures` answers is told as it stands.
 -- Assumes nothing.
 use borrow.Author.Needs.{needs}
-use Rattle.tool_log_c.proofs.Handing.{doubles-put, doubles-kept}
+use Rattle.tool_log_c.proofs.Handing.{figures-told}
 use Rattle.tool_log_c.proofs.tl_module_figures.Statement.{statement}
 use Rattle.tool_log_c.proofs.tl_module_figures.Tie as tie
 
 returns : tie.Need-returns
-returns c =
-    let g = c .before .before .before .before .before .before .before .before .before .module-figures .ensures in
-    doubles-put g _ _ _ (c .before .before .before .before .before .before .before .f .given .1) (c .accept .ensures) (c .before .before .before .before .put-figures .ensures) (c .before .before .put-bases .ensures)
-
-returns-2 : tie.Need-returns-2
-returns-2 c =
-    let g = c .before .before .before .before .before .module-figures .ensures in
-    doubles-kept g _ _ _ (c .before .before .before .x .given .1) (c .refuse .ensures)
+returns c = figures-told (c .before .before .before .before .module-figures .ensures) (c .tell-figures .ensures .0) (c .tell-figures .ensures .1 .0) (c .tell-figures .ensures .1 .1)
 
 pub tl-module-figures-spec : {M : Type 1} → statement M
-tl-module-figures-spec = tie.close (tie.spec (λ c κs. search needs) (λ c. search needs) (λ c κs. search needs) (λ c κs. search needs) (λ c κs. search needs) (λ c. search needs) (λ c κs. search needs) returns returns-2)
+tl-module-figures-spec = tie.close (tie.spec (λ c κs. search needs) (λ c κs. search needs) returns)
