@@ -1,0 +1,90 @@
+-- From what a call of `tool_log` answers to what its C function hands over.
+-- Assumes nothing.
+use mathlib.Core.Path.{_≡_, refl, ap, _∙_, subst}
+use mathlib.Core.List.{List}
+use Prim.Native.Nat.{ℕ}
+use lib.Ieee.{Float}
+use Rattle.e79.specs.declared.Quantities.{Quantities}
+use Rattle.e79.specs.Doubles.{figuresOf}
+use Rattle.e79.specs.Accuracy.{Accurate}
+use Rattle.rules.specs.declared.Refusal.{Refusal}
+use Rattle.rules.specs.declared.StateTimes.{StateTimes}
+use Rattle.rules.specs.declared.Verdict.{Verdict}
+use Rattle.rules.specs.declared.Verdict.the-variants.{Accepted, Refused}
+use Rattle.tool_log.specs.declared.StateTimesAnswer.{StateTimesAnswer}
+use Rattle.tool_log.specs.declared.StateTimesAnswer.the-variants as times
+use Rattle.tool_log.specs.declared.QuantitiesAnswer.{QuantitiesAnswer}
+use Rattle.tool_log.specs.declared.QuantitiesAnswer.the-variants as quantities
+use Rattle.tool_log.specs.declared.FiguresAnswer.{FiguresAnswer}
+use Rattle.tool_log.specs.declared.FiguresAnswer.the-variants as figures
+use Rattle.tool_log.specs.Calls.{answerOf, Given}
+use Rattle.tool_log.specs.Reports as reports
+use Rattle.tool_log_c.specs.Arrays.{timesOf, quantitiesOf, ratiosOf, basesOf}
+use Rattle.tool_log_c.specs.Told.{answerOr, Told}
+use Rattle.tool_log_c.specs.Answers.{timesVerdict, timesAfter, quantitiesVerdict, quantitiesAfter, figuresVerdict, ratiosAfter, basesAfter}
+use Rattle.tool_log_c.specs.Calls.{Promised, Examined, Numbers, Doubles}
+
+-- ---- for every kind of answer
+
+told-of : {v w : Verdict} {r : ℕ} {refusal : List ℕ} → w ≡ v → Told w r refusal → Told v r refusal
+told-of {v} {w} {r} {refusal} p t = subst (λ (x : Verdict). Told x r refusal) p t
+
+module _ {A R : Type 0} {answered : A → R} {refused : Refusal → R} {v : Verdict} {a : A} {Promise : A → Type 0} {Allowed : Refusal → Type 0} {r : R} (g : Given answered refused v a Promise Allowed r) where
+  -- what is promised of an answer is promised of the verdict's value
+  promised : Promised v (Promise a) Allowed
+  promised =
+      record {
+        promise = λ p. g .promise a (g .answer ∙ ap (λ (w : Verdict). answerOf answered refused w a) p);
+        refusal = λ x p. g .refusal x (g .answer ∙ ap (λ (w : Verdict). answerOf answered refused w a) p);
+      }
+
+  -- the verdict in an answer, where it reads the two cases right
+  verdict-in : (read : R → Verdict) → ((b : A) → read (answered b) ≡ Accepted) → ((x : Refusal) → read (refused x) ≡ Refused x) → read r ≡ v
+  verdict-in read of-answer of-refusal = ap read (g .answer) ∙ at v
+    where
+      at : (w : Verdict) → read (answerOf answered refused w a) ≡ w
+      at Accepted = of-answer a
+      at (Refused x) = of-refusal x
+
+  -- what an array holds after an answer
+  after-in : {X : Type 0} (put : R → List X → List X) (f : A → List X) (before : List X) → ((b : A) → put (answered b) before ≡ f b)
+      → ((x : Refusal) → put (refused x) before ≡ before) → put r before ≡ answerOr v (f a) before
+  after-in put f before of-answer of-refusal = ap (λ (b : R). put b before) (g .answer) ∙ at v
+    where
+      at : (w : Verdict) → put (answerOf answered refused w a) before ≡ answerOr w (f a) before
+      at Accepted = of-answer a
+      at (Refused x) = of-refusal x
+
+-- ---- the calls
+
+pub examined : {s : List ℕ} {room : ℕ} {w : Verdict} {r : ℕ} {refusal : List ℕ} → reports.Examined s room w → Told w r refusal → Examined s room r refusal
+examined g t = record { told = told-of (g .answer) t; known = λ x p. g .refusal x (g .answer ∙ p) }
+
+module _ {v : Verdict} {Allowed : Refusal → Type 0} {flag : ℕ} {refusal : List ℕ} where
+  pub times-told : {t : StateTimes} {Promise : StateTimes → Type 0} {r : StateTimesAnswer} {before after : List ℕ} → Given times.Answered times.Refused v t Promise Allowed r
+      → Told (timesVerdict r) flag refusal → after ≡ timesAfter r before → Numbers v (timesOf t) before (Promise t) Allowed flag after refusal
+  times-told {before = before} g t e =
+      record {
+        told = told-of (verdict-in g timesVerdict (λ b. refl) (λ x. refl)) t;
+        array = e ∙ after-in g timesAfter timesOf before (λ b. refl) (λ x. refl);
+        known = promised g;
+      }
+
+  pub quantities-told : {q : Quantities} {Promise : Quantities → Type 0} {r : QuantitiesAnswer} {before after : List ℕ} → Given quantities.Answered quantities.Refused v q Promise Allowed r
+      → Told (quantitiesVerdict r) flag refusal → after ≡ quantitiesAfter r before → Numbers v (quantitiesOf q) before (Promise q) Allowed flag after refusal
+  quantities-told {before = before} g t e =
+      record {
+        told = told-of (verdict-in g quantitiesVerdict (λ b. refl) (λ x. refl)) t;
+        array = e ∙ after-in g quantitiesAfter quantitiesOf before (λ b. refl) (λ x. refl);
+        known = promised g;
+      }
+
+  pub figures-told : {q : Quantities} {r : FiguresAnswer} {before after : List Float} {basedBefore based : List ℕ} → Given figures.Answered figures.Refused v (figuresOf q) (Accurate q) Allowed r
+      → Told (figuresVerdict r) flag refusal → after ≡ ratiosAfter r before → based ≡ basesAfter r basedBefore → Doubles v q before basedBefore Allowed flag after based refusal
+  figures-told {before = before} {basedBefore = basedBefore} g t e b =
+      record {
+        told = told-of (verdict-in g figuresVerdict (λ b. refl) (λ x. refl)) t;
+        doubles = e ∙ after-in g ratiosAfter ratiosOf before (λ b. refl) (λ x. refl);
+        bases = b ∙ after-in g basesAfter basesOf basedBefore (λ b. refl) (λ x. refl);
+        known = promised g;
+      }

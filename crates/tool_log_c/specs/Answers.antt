@@ -1,0 +1,48 @@
+-- What an answer of `tool_log` says: its verdict, and what it makes of an array's content.
+-- Definitions only.
+use mathlib.Core.List.{List}
+use Prim.Native.Nat.{ℕ}
+use lib.Ieee.{Float}
+use Rattle.rules.specs.declared.Verdict.{Verdict}
+use Rattle.rules.specs.declared.Verdict.the-variants as verdict
+use Rattle.tool_log.specs.declared.StateTimesAnswer.{StateTimesAnswer}
+use Rattle.tool_log.specs.declared.StateTimesAnswer.the-variants as times
+use Rattle.tool_log.specs.declared.QuantitiesAnswer.{QuantitiesAnswer}
+use Rattle.tool_log.specs.declared.QuantitiesAnswer.the-variants as quantities
+use Rattle.tool_log.specs.declared.FiguresAnswer.{FiguresAnswer}
+use Rattle.tool_log.specs.declared.FiguresAnswer.the-variants as figures
+use Rattle.tool_log_c.specs.Arrays.{timesOf, quantitiesOf, ratiosOf, basesOf}
+
+-- ---- state times
+
+abbrev pub timesVerdict : StateTimesAnswer → Verdict
+timesVerdict (times.Answered t) = verdict.Accepted
+timesVerdict (times.Refused x) = verdict.Refused x
+
+abbrev pub timesAfter : StateTimesAnswer → List ℕ → List ℕ
+timesAfter (times.Answered t) before = timesOf t
+timesAfter (times.Refused x) before = before
+
+-- ---- quantities
+
+abbrev pub quantitiesVerdict : QuantitiesAnswer → Verdict
+quantitiesVerdict (quantities.Answered q) = verdict.Accepted
+quantitiesVerdict (quantities.Refused x) = verdict.Refused x
+
+abbrev pub quantitiesAfter : QuantitiesAnswer → List ℕ → List ℕ
+quantitiesAfter (quantities.Answered q) before = quantitiesOf q
+quantitiesAfter (quantities.Refused x) before = before
+
+-- ---- figures
+
+abbrev pub figuresVerdict : FiguresAnswer → Verdict
+figuresVerdict (figures.Answered f) = verdict.Accepted
+figuresVerdict (figures.Refused x) = verdict.Refused x
+
+abbrev pub ratiosAfter : FiguresAnswer → List Float → List Float
+ratiosAfter (figures.Answered f) before = ratiosOf f
+ratiosAfter (figures.Refused x) before = before
+
+abbrev pub basesAfter : FiguresAnswer → List ℕ → List ℕ
+basesAfter (figures.Answered f) before = basesOf f
+basesAfter (figures.Refused x) before = before

@@ -1,0 +1,4 @@
+pub mod Arrays
+pub mod Told
+pub mod Answers
+pub mod Calls
