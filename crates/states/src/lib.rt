@@ -1,6 +1,6 @@
 // The pass over the state records of a log: it tests each record and sums the modules' state times on the way.
 ghost use mathlib.Core.Path.{_≡_};
-ghost use mathlib.Core.Bool.{true};
+ghost use mathlib.Core.Bool.{true, cond};
 ghost use mathlib.Core.List.{List};
 ghost use Prim.Native.Nat.{_<_, _≤_};
 ghost use lib.ListN.{replicate};
@@ -73,6 +73,14 @@ fn is_uptime(table: &[u8; 24], code: usize) -> bool
     state_of(table, code) < 3
 }
 
+// How much of a stretch in the sub-state of a code is uptime: all or nothing. A value and not a branch, for codes come in any sequence.
+fn uptime_in(table: &[u8; 24], code: usize, length: u64) -> u64
+    requires { ⌜ (now table ≡ states) × (code < 24) ⌝ }
+    ensures { λ r. ⌜ r ≡ cond (isUptime code) length 0 ⌝ }
+{
+    if is_uptime(table, code) { length } else { 0 }
+}
+
 // Adds a stretch of `length` ms in the sub-state of a code to module m's total of its state, and to m's uptime where the code is an uptime code.
 fn add_stretch(
     table: &[u8; 24],
@@ -89,9 +97,7 @@ fn add_stretch(
 {
     let at = 6 * m + state_of(table, code);
     totals[at] += length;
-    if is_uptime(table, code) {
-        uptime[m] += length;
-    }
+    uptime[m] += uptime_in(table, code, length);
 }
 
 // State record i is refused.
