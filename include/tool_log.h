@@ -4,7 +4,7 @@
  * Link libtool_log_c.a (x86-64 Linux). It needs nothing but C's memset.
  *
  * Every function takes any sequence of bytes as a log and always returns. It keeps no state, allocates nothing and calls nothing back, so threads
- * may call it at the same time with arrays of their own. It uses some 10 KiB of stack.
+ * may call it at the same time with arrays of their own. It uses less than 64 KiB of stack.
  *
  * What a function answers
  *   1  answered (tl_examine: accepted). The answer's arrays are filled, and `refusal` becomes three zeros.
