@@ -98,6 +98,11 @@ unfolding encode
 length-encode l =
     simp (length-append, length-packed, length-joined 6 stateSlots (l .states), length-joined 9 standardSlots (l .standards), length-joined 11 unitSlots (l .units)) (omega arith)
 
+-- the header of what is written counts the log's records
+pub header-encode : (l : Log) → Fit (headerSlots (headerFor l)) → headerOf (encode l) ≡ headerFor l
+unfolding encode
+header-encode l fit = placed header-kind (encode l) 0 (headerFor l) (take-at (headerBytes (headerFor l)) _ 10 (length-packed 10 (headerSlots (headerFor l)))) fit
+
 -- what a log is written as says that log, where its numbers fit their fields
 pub decode-encode : (l : Log) → LogFits l → decode (encode l) ≡ l
 unfolding decode encode
@@ -107,14 +112,13 @@ decode-encode l fit =
     let states = joined stateBytes (l .states) in
     let standards = joined standardBytes (l .standards) in
     let units = joined unitBytes (l .units) in
-    let h : headerOf s ≡ headerFor l = placed header-kind s 0 (headerFor l) (take-at head _ 10 (length-packed 10 (headerSlots (headerFor l)))) (fit .header) in
     let behind : drop 10 s ≡ states ++ (standards ++ units) = drop-at head _ 10 (length-packed 10 (headerSlots (headerFor l))) in
     let after : drop (10 + 6 * length (l .states)) s ≡ standards ++ units
     = sym (drop-drop (6 * length (l .states)) 10 s) ∙ rw behind (drop-at states _ (6 * length (l .states)) (length-joined 6 stateSlots (l .states))) in
     let last : drop (10 + 6 * length (l .states) + 9 * length (l .standards)) s ≡ units ++ []
     = sym (drop-drop (9 * length (l .standards)) (10 + 6 * length (l .states)) s)
     ∙ rw (after, append-nil units) (drop-at standards _ (9 * length (l .standards)) (length-joined 9 standardSlots (l .standards))) in
-    ap (λ (x : Header). decodeBy x s) h
+    ap (λ (x : Header). decodeBy x s) (header-encode l (fit .header))
     ∙ rw (
       list-read state-kind (stateAt s) s 10 (state-place s) (l .states) (standards ++ units) behind (fit .states),
       list-read standard-kind (standardAt s (headerFor l)) s (10 + 6 * length (l .states)) (standard-place s (headerFor l)) (l .standards) units after (fit .standards),

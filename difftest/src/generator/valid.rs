@@ -1,0 +1,402 @@
+//! Valid logs.
+
+use crate::draft::Draft;
+use crate::prng::Prng;
+use crate::records::*;
+use std::collections::BTreeSet;
+
+pub const LAST_RECIPE: u64 = 1_023;
+pub const LONGEST_THEORETICAL: u64 = (1 << 27) - 1;
+pub const MOST_OF_A_RECORD: u64 = 65_535;
+
+const SHIFT: u64 = 28_800_000;
+const DAY: u64 = 86_400_000;
+const WEEK: u64 = 604_800_000;
+
+/// Once in so many logs a list is as long as it may be.
+const LARGE_ONCE_IN: u64 = 300;
+
+pub fn draft(rng: &mut Prng) -> Draft {
+    let sizes = if rng.once_in(LARGE_ONCE_IN) {
+        Sizes::large(rng)
+    } else {
+        Sizes::small(rng)
+    };
+    let moments = moments(rng, sizes.period);
+    let mut draft = Draft {
+        period: sizes.period,
+        modules: sizes.modules,
+        ..Draft::default()
+    };
+    draft.states = state_records(rng, &sizes, &moments);
+    draft.standards = standards(rng, &sizes, &moments);
+    let production = production_times(&draft);
+    let mut room = production.clone();
+    draft.units = unit_records(rng, &sizes, &moments, &draft, &mut room);
+    if rng.once_in(4) {
+        let module = rng.index(room.len());
+        fill(rng, &mut draft, module as u64, room[module]);
+    }
+    arrange(rng, &mut draft);
+    draft
+}
+
+// ---------------------------------------------------------------- sizes
+
+struct Sizes {
+    period: u64,
+    modules: u64,
+    /// State records beside the openings; fewer where the period has no room for them.
+    changes: u64,
+    standards: u64,
+    recipes: u64,
+    units: u64,
+}
+
+impl Sizes {
+    fn small(rng: &mut Prng) -> Sizes {
+        let modules = match rng.below(20) {
+            0..=5 => 1,
+            6..=14 => rng.between(2, 5),
+            15..=17 => rng.between(6, 20),
+            18 => rng.between(21, 63),
+            _ => 64,
+        };
+        let changes_each = rng.below(6);
+        Sizes {
+            period: period(rng),
+            modules,
+            changes: rng.between(0, modules * changes_each),
+            standards: if rng.once_in(8) { 0 } else { rng.between(1, 8) },
+            recipes: rng.between(1, 4),
+            units: if rng.once_in(8) {
+                0
+            } else {
+                rng.between(1, 10)
+            },
+        }
+    }
+
+    /// Each list at its bound, or now and then a short one.
+    fn large(rng: &mut Prng) -> Sizes {
+        let choices = [1, 3, 64, rng.between(1, 64)];
+        let modules = rng.pick(&choices);
+        let short = rng.below(8);
+        Sizes {
+            period: rng.pick(&[SHIFT, WEEK, LONGEST_PERIOD]),
+            modules,
+            changes: if short == 0 { 0 } else { MOST_STATES - modules },
+            standards: if short == 1 { 1 } else { MOST_STANDARDS },
+            recipes: rng.pick(&[1, 2, 20, 300, 1_024]),
+            units: if short == 2 { 0 } else { MOST_UNITS },
+        }
+    }
+}
+
+fn period(rng: &mut Prng) -> u64 {
+    match rng.below(12) {
+        0 => 1,
+        1 => rng.between(2, 16),
+        2..=4 => rng.between(2, 3_000),
+        5 => SHIFT,
+        6 => DAY,
+        7 => WEEK,
+        8 => LONGEST_PERIOD,
+        9 => LONGEST_PERIOD - rng.below(1_000),
+        _ => rng.spread(LONGEST_PERIOD),
+    }
+}
+
+// ---------------------------------------------------------------- times
+
+/// Times that come up again and again in a log, so that records of different lists meet.
+fn moments(rng: &mut Prng, period: u64) -> Vec<u64> {
+    let mut moments = vec![0, period - 1];
+    for _ in 0..rng.between(1, 6) {
+        let moment = rng.below(period);
+        moments.extend([
+            moment,
+            moment.saturating_sub(1),
+            (moment + 1).min(period - 1),
+        ]);
+    }
+    moments
+}
+
+fn moment(rng: &mut Prng, moments: &[u64], period: u64) -> u64 {
+    if rng.once_in(3) {
+        rng.below(period)
+    } else {
+        rng.pick(moments)
+    }
+}
+
+// ---------------------------------------------------------------- states
+
+/// The codes that a module runs through.
+enum Habit {
+    Any,
+    Productive,
+    Up,
+    Down,
+    Always(u64),
+}
+
+fn habit(rng: &mut Prng) -> Habit {
+    match rng.below(8) {
+        0..=2 => Habit::Any,
+        3..=4 => Habit::Productive,
+        5 => Habit::Up,
+        6 => Habit::Down,
+        _ => Habit::Always(rng.below(24)),
+    }
+}
+
+fn code(rng: &mut Prng, habit: &Habit) -> u64 {
+    match habit {
+        Habit::Any => rng.below(24),
+        Habit::Productive if rng.once_in(4) => rng.below(24),
+        Habit::Productive => rng.below(6),
+        Habit::Up => rng.below(14),
+        Habit::Down => rng.between(14, 23),
+        Habit::Always(code) => *code,
+    }
+}
+
+fn state_records(rng: &mut Prng, sizes: &Sizes, moments: &[u64]) -> Vec<StateRecord> {
+    let modules = sizes.modules as usize;
+    let mut times = vec![BTreeSet::from([0]); modules];
+    let possible = sizes.modules.saturating_mul(sizes.period - 1);
+    let wanted = sizes.changes.min(possible);
+    let mut placed = 0;
+    for _ in 0..4 * wanted {
+        if placed == wanted {
+            break;
+        }
+        let module = rng.index(modules);
+        if times[module].insert(moment(rng, moments, sizes.period)) {
+            placed += 1;
+        }
+    }
+    let down_tool = rng.once_in(20);
+    // Records of equal time: by module rising, falling, or in any sequence.
+    let way = rng.below(4);
+    let mut keyed = Vec::new();
+    for (module, times) in times.iter().enumerate() {
+        let habit = if down_tool { Habit::Down } else { habit(rng) };
+        let module = module as u64;
+        for &time in times {
+            let key = match way {
+                0 => module,
+                1 => MOST_MODULES - module,
+                _ => rng.draw(),
+            };
+            let code = code(rng, &habit);
+            keyed.push((
+                time,
+                key,
+                StateRecord {
+                    module,
+                    code,
+                    time,
+                    spare: 0,
+                },
+            ));
+        }
+    }
+    keyed.sort_by_key(|&(time, key, _)| (time, key));
+    keyed.into_iter().map(|(_, _, record)| record).collect()
+}
+
+/// Productive ms of each module of a draft whose state records are valid.
+pub fn production_times(draft: &Draft) -> Vec<u64> {
+    let mut production = vec![0; draft.modules as usize];
+    let mut productive_since: Vec<Option<u64>> = vec![None; draft.modules as usize];
+    for record in &draft.states {
+        let module = record.module as usize;
+        if let Some(since) = productive_since[module].take() {
+            production[module] += record.time - since;
+        }
+        if record.code < 6 {
+            productive_since[module] = Some(record.time);
+        }
+    }
+    for (sum, since) in production.iter_mut().zip(productive_since) {
+        if let Some(since) = since {
+            *sum += draft.period - since;
+        }
+    }
+    production
+}
+
+// ---------------------------------------------------------------- standards
+
+fn theoretical(rng: &mut Prng) -> u64 {
+    match rng.below(8) {
+        0 => 1,
+        1 => LONGEST_THEORETICAL,
+        2 => rng.pick(&[1_000, 60_000, 150_000, 1_800_000]),
+        3 => rng.between(1, 20),
+        _ => rng.spread(LONGEST_THEORETICAL),
+    }
+}
+
+fn standards(rng: &mut Prng, sizes: &Sizes, moments: &[u64]) -> Vec<Standard> {
+    let mut recipes: Vec<u64> = (0..sizes.recipes)
+        .map(|_| rng.below(LAST_RECIPE + 1))
+        .collect();
+    recipes[0] = rng.pick(&[0, LAST_RECIPE, 1, 512]);
+    let mut taken = BTreeSet::new();
+    let mut standards = Vec::new();
+    for _ in 0..4 * sizes.standards {
+        if standards.len() as u64 == sizes.standards {
+            break;
+        }
+        let recipe = rng.pick(&recipes);
+        let start = moment(rng, moments, sizes.period);
+        if taken.insert((recipe, start)) {
+            standards.push(Standard {
+                recipe,
+                start,
+                theoretical: theoretical(rng),
+            });
+        }
+    }
+    standards
+}
+
+/// The theoretical time in force, if any.
+pub fn in_force(draft: &Draft, recipe: u64, time: u64) -> Option<u64> {
+    let covering = |standard: &&Standard| standard.recipe == recipe && standard.start <= time;
+    let latest = draft
+        .standards
+        .iter()
+        .filter(covering)
+        .max_by_key(|standard| standard.start);
+    latest.map(|standard| standard.theoretical)
+}
+
+pub fn unused_recipe(rng: &mut Prng, draft: &Draft) -> u64 {
+    let mut recipe = rng.below(LAST_RECIPE + 1);
+    while draft
+        .standards
+        .iter()
+        .any(|standard| standard.recipe == recipe)
+    {
+        recipe = (recipe + 1) % (LAST_RECIPE + 1);
+    }
+    recipe
+}
+
+// ---------------------------------------------------------------- units
+
+fn unit_time(rng: &mut Prng, moments: &[u64], period: u64, start: u64) -> u64 {
+    match rng.below(4) {
+        0 => start,
+        1 => start.saturating_sub(1),
+        2 => (start + 1).min(period - 1),
+        _ => moment(rng, moments, period),
+    }
+}
+
+fn effective(rng: &mut Prng, actual: u64) -> u64 {
+    match rng.below(4) {
+        0 => actual,
+        1 => actual.saturating_sub(1),
+        2 => 0,
+        _ => rng.between(0, actual),
+    }
+}
+
+/// Unit records that the production time left in `room` has place for.
+fn unit_records(
+    rng: &mut Prng,
+    sizes: &Sizes,
+    moments: &[u64],
+    draft: &Draft,
+    room: &mut [u64],
+) -> Vec<UnitRecord> {
+    let mut units = Vec::new();
+    if draft.standards.is_empty() {
+        return units;
+    }
+    let zero = rng.once_in(10);
+    for _ in 0..4 * sizes.units {
+        if units.len() as u64 == sizes.units {
+            break;
+        }
+        let standard = rng.pick(&draft.standards);
+        let time = unit_time(rng, moments, sizes.period, standard.start);
+        let Some(theoretical) = in_force(draft, standard.recipe, time) else {
+            continue;
+        };
+        let module = rng.index(room.len());
+        let most = (room[module] / theoretical).min(MOST_OF_A_RECORD);
+        let actual = match rng.below(6) {
+            _ if zero => 0,
+            0 => 0,
+            1 => most,
+            2 => rng.between(0, most),
+            _ => rng.between(0, most.min(50)),
+        };
+        room[module] -= actual * theoretical;
+        units.push(UnitRecord {
+            module: module as u64,
+            recipe: standard.recipe,
+            time,
+            actual,
+            effective: effective(rng, actual),
+            spare: 0,
+        });
+    }
+    units
+}
+
+/// Theoretical times that any production time can be filled with.
+const STEPS: [u64; 4] = [LONGEST_THEORETICAL, 1_000_000, 1_000, 1];
+
+/// Is there space in the lists for the records of `fill`?
+pub fn can_fill(draft: &Draft) -> bool {
+    draft.standards.len() + STEPS.len() <= MOST_STANDARDS as usize
+        && draft.units.len() + STEPS.len() <= MOST_UNITS as usize
+}
+
+/// Adds units until the module's rate is exactly 1. The last record added has units of 1 ms.
+pub fn fill(rng: &mut Prng, draft: &mut Draft, module: u64, room: u64) {
+    if !can_fill(draft) {
+        return;
+    }
+    let mut left = room;
+    for theoretical in STEPS {
+        let recipe = unused_recipe(rng, draft);
+        let start = rng.below(draft.period);
+        let time = rng.between(start, draft.period - 1);
+        let actual = left / theoretical;
+        left -= actual * theoretical;
+        draft.standard(recipe, start, theoretical);
+        let effective = effective(rng, actual);
+        draft.unit(module, recipe, time, actual, effective);
+    }
+}
+
+/// Standards and units in any sequence, now and then in a rising or falling one.
+fn arrange(rng: &mut Prng, draft: &mut Draft) {
+    match rng.below(4) {
+        0 => {
+            draft
+                .standards
+                .sort_by_key(|standard| (standard.recipe, standard.start));
+            draft.units.sort_by_key(|unit| (unit.time, unit.module));
+        }
+        1 => {
+            draft
+                .standards
+                .sort_by_key(|standard| (standard.recipe, standard.start));
+            draft.standards.reverse();
+        }
+        _ => {
+            rng.shuffle(&mut draft.standards);
+            rng.shuffle(&mut draft.units);
+        }
+    }
+}

@@ -1,0 +1,87 @@
+//! The header and the three kinds of record of a log, as whole numbers.
+
+/// Bounds of document 01.
+pub const LONGEST_PERIOD: u64 = 31_622_400_000;
+pub const MOST_MODULES: u64 = 64;
+pub const MOST_STATES: u64 = 6_000;
+pub const MOST_STANDARDS: u64 = 512;
+pub const MOST_UNITS: u64 = 2_000;
+
+/// Lengths in bytes.
+pub const HEADER_BYTES: u64 = 10;
+pub const STATE_BYTES: u64 = 6;
+pub const STANDARD_BYTES: u64 = 9;
+pub const UNIT_BYTES: u64 = 11;
+
+#[derive(Clone, Copy, Debug, PartialEq, Eq)]
+pub struct Header {
+    pub period: u64,
+    pub modules: u64,
+    pub states: u64,
+    pub standards: u64,
+    pub units: u64,
+}
+
+/// A module enters a sub-state at a time.
+#[derive(Clone, Copy, Debug, PartialEq, Eq)]
+pub struct StateRecord {
+    pub module: u64,
+    pub code: u64,
+    pub time: u64,
+    pub spare: u64,
+}
+
+/// A theoretical time per unit of a recipe, from a start on.
+#[derive(Clone, Copy, Debug, PartialEq, Eq)]
+pub struct Standard {
+    pub recipe: u64,
+    pub start: u64,
+    pub theoretical: u64,
+}
+
+/// Units of a recipe that a module made.
+#[derive(Clone, Copy, Debug, PartialEq, Eq)]
+pub struct UnitRecord {
+    pub module: u64,
+    pub recipe: u64,
+    pub time: u64,
+    pub actual: u64,
+    pub effective: u64,
+    pub spare: u64,
+}
+
+/// Why a log is turned back: number, list and place of document 01.
+#[derive(Clone, Copy, Debug, PartialEq, Eq, PartialOrd, Ord)]
+pub struct Refusal {
+    pub number: u64,
+    pub list: u64,
+    pub place: u64,
+}
+
+pub const NO_LIST: u64 = 0;
+pub const STATES: u64 = 1;
+pub const STANDARDS: u64 = 2;
+pub const UNITS: u64 = 3;
+
+impl Refusal {
+    pub fn new(number: u64, list: u64, place: usize) -> Refusal {
+        Refusal {
+            number,
+            list,
+            place: place as u64,
+        }
+    }
+
+    /// A refusal of the log as a whole.
+    pub fn of_log(number: u64) -> Refusal {
+        Refusal::new(number, NO_LIST, 0)
+    }
+
+    /// The line that a refused log prints.
+    pub fn line(&self) -> String {
+        format!(
+            "refused {} list {} at {}\n",
+            self.number, self.list, self.place
+        )
+    }
+}

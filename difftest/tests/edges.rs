@@ -1,0 +1,304 @@
+//! Document 01's case W and its edge cases, on the oracle.
+
+use difftest::draft::Draft;
+use difftest::oracle::{account, figures, ten_thousandths, Account, Quantities};
+use difftest::records::*;
+
+const WEEK: u64 = 604_800_000;
+
+fn case_w() -> Draft {
+    let mut draft = Draft {
+        period: WEEK,
+        modules: 3,
+        ..Draft::default()
+    };
+    for (module, code, time) in [
+        (0, 0, 0),
+        (1, 0, 0),
+        (2, 0, 0),
+        (2, 7, 288_000_000),
+        (1, 7, 532_800_000),
+        (0, 7, 540_000_000),
+        (1, 18, 568_800_000),
+        (0, 18, 586_800_000),
+    ] {
+        draft.state(module, code, time);
+    }
+    draft.standard(0, 0, 1_800_000);
+    for (module, actual, effective) in [(0, 280, 261), (1, 290, 278), (2, 150, 150)] {
+        draft.unit(module, 0, 3_600_000, actual, effective);
+    }
+    draft
+}
+
+/// One productive module, one standard of 1 ms from the start on.
+fn bench(period: u64) -> Draft {
+    let mut draft = Draft {
+        period,
+        modules: 1,
+        ..Draft::default()
+    };
+    draft.state(0, 0, 0);
+    draft.standard(0, 0, 1);
+    draft
+}
+
+fn judged(draft: &Draft) -> Result<Account, Refusal> {
+    account(&draft.bytes())
+}
+
+fn refused(draft: &Draft, number: u64, list: u64, place: usize) {
+    assert_eq!(judged(draft).err(), Some(Refusal::new(number, list, place)));
+}
+
+fn report(draft: &Draft) -> String {
+    String::from_utf8(judged(draft).expect("accepted").report()).expect("text")
+}
+
+#[test]
+fn case_w_prints_its_report() {
+    let expected = "module avail oper rate qual oee\n\
+                    0 0.9702 0.9202 0.9333 0.9321 0.7768\n\
+                    1 0.9405 0.9367 0.9797 0.9586 0.8274\n\
+                    2 1.0000 0.4762 0.9375 1.0000 0.4464\n\
+                    tool 0.9702 0.7730 0.9524 0.9569 0.6835\n";
+    assert_eq!(report(&case_w()), expected);
+    let whole = judged(&case_w()).unwrap();
+    assert_eq!(whole.fits(183), Ok(()));
+    assert_eq!(whole.fits(182), Err(Refusal::of_log(18)));
+    assert_eq!(whole.module(2).map(|sums| sums.quantities.total), Ok(WEEK));
+    assert_eq!(whole.module(3).err(), Some(Refusal::new(7, 0, 3)));
+    assert_eq!(
+        whole.module(usize::MAX).err(),
+        Some(Refusal::new(7, 0, usize::MAX))
+    );
+}
+
+#[test]
+fn under_ten_bytes() {
+    assert_eq!(account(&[]).err(), Some(Refusal::of_log(1)));
+    assert_eq!(account(&[0xff; 9]).err(), Some(Refusal::of_log(1)));
+}
+
+#[test]
+fn header_bounds() {
+    assert!(judged(&bench(LONGEST_PERIOD)).is_ok());
+    refused(&bench(LONGEST_PERIOD + 1), 2, 0, 0);
+    refused(&bench(0), 2, 0, 0);
+
+    let mut wide = bench(10);
+    wide.modules = 64;
+    (1..64).for_each(|module| wide.state(module, 0, 0));
+    assert!(judged(&wide).is_ok());
+    wide.modules = 65;
+    refused(&wide, 3, 0, 0);
+    wide.modules = 0;
+    refused(&wide, 3, 0, 0);
+}
+
+#[test]
+fn counts_and_length() {
+    let mut long = bench(10_000);
+    (1..6_000).for_each(|time| long.state(0, 0, time));
+    assert!(judged(&long).is_ok());
+    long.state(0, 0, 6_000);
+    refused(&long, 4, 0, 0);
+
+    let mut standards = bench(10_000);
+    (1..512).for_each(|start| standards.standard(0, start, 1));
+    assert!(judged(&standards).is_ok());
+    standards.standard(0, 512, 1);
+    refused(&standards, 4, 0, 0);
+
+    let mut units = bench(10_000);
+    (0..2_000).for_each(|time| units.unit(0, 0, time, 1, 1));
+    assert!(judged(&units).is_ok());
+    units.unit(0, 0, 2_000, 1, 1);
+    refused(&units, 4, 0, 0);
+
+    let length = case_w().bytes().len();
+    for wrong in [10, length - 1, length + 1, length + 70_000] {
+        refused(
+            &Draft {
+                length: Some(wrong),
+                ..case_w()
+            },
+            5,
+            0,
+            0,
+        );
+    }
+}
+
+#[test]
+fn the_longest_log() {
+    let mut longest = bench(LONGEST_PERIOD);
+    (1..6_000).for_each(|time| longest.state(0, 0, time));
+    (1..512).for_each(|start| longest.standard(0, start, 1));
+    (0..2_000).for_each(|time| longest.unit(0, 0, time, 1, 1));
+    assert_eq!(longest.bytes().len(), 62_618);
+    assert!(judged(&longest).is_ok());
+}
+
+#[test]
+fn no_records() {
+    let empty = Draft {
+        period: 1,
+        modules: 1,
+        ..Draft::default()
+    };
+    assert_eq!(empty.bytes().len(), 10);
+    refused(&empty, 11, 0, 0);
+}
+
+#[test]
+fn time_and_code_bounds() {
+    for (time, passes) in [(9, true), (10, false)] {
+        let mut draft = bench(10);
+        draft.state(0, 23, time);
+        if passes {
+            assert!(judged(&draft).is_ok());
+        } else {
+            refused(&draft, 9, STATES, 1);
+        }
+    }
+    let mut code = bench(10);
+    code.state(0, 24, 5);
+    refused(&code, 8, STATES, 1);
+}
+
+#[test]
+fn sequence_of_states() {
+    let mut twice = bench(10);
+    twice.state(0, 7, 5);
+    twice.state(0, 8, 5);
+    refused(&twice, 10, STATES, 2);
+
+    let mut two = bench(10);
+    two.modules = 2;
+    two.state(1, 0, 0);
+    assert!(judged(&two).is_ok());
+    two.states.swap(0, 1);
+    assert!(judged(&two).is_ok());
+    two.state(1, 7, 5);
+    two.state(0, 7, 4);
+    refused(&two, 10, STATES, 3);
+}
+
+#[test]
+fn openings() {
+    let mut late = bench(10);
+    late.states[0].time = 1;
+    refused(&late, 11, NO_LIST, 0);
+    let mut missing = bench(10);
+    missing.modules = 3;
+    missing.state(2, 0, 0);
+    refused(&missing, 11, NO_LIST, 1);
+}
+
+#[test]
+fn a_unit_at_a_start() {
+    let mut draft = bench(100);
+    draft.standards.clear();
+    draft.standard(0, 50, 2);
+    draft.standard(0, 20, 3);
+    let actual_at = |time| {
+        let mut draft = draft.clone();
+        draft.unit(0, 0, time, 1, 1);
+        judged(&draft).map(|account| account.tool.quantities.actual)
+    };
+    assert_eq!(actual_at(50), Ok(2));
+    assert_eq!(actual_at(49), Ok(3));
+    assert_eq!(actual_at(20), Ok(3));
+    assert_eq!(actual_at(19), Err(Refusal::new(15, UNITS, 0)));
+}
+
+#[test]
+fn grounds_of_standards_and_units() {
+    let mut late = bench(10);
+    late.standard(1, 10, 0);
+    refused(&late, 9, STANDARDS, 1);
+    let mut no_time = bench(10);
+    no_time.standard(0, 0, 0);
+    refused(&no_time, 12, STANDARDS, 1);
+    let mut twice = bench(10);
+    twice.standard(1, 0, 5);
+    twice.standard(0, 0, 5);
+    refused(&twice, 13, STANDARDS, 2);
+
+    let mut good = bench(10);
+    good.unit(0, 0, 0, 3, 3);
+    assert!(judged(&good).is_ok());
+    good.unit(0, 0, 0, 3, 4);
+    refused(&good, 14, UNITS, 1);
+    good.units[1].time = 10;
+    refused(&good, 9, UNITS, 1);
+    good.units[1].module = 1;
+    refused(&good, 7, UNITS, 1);
+    good.units[1].spare = 16;
+    refused(&good, 6, UNITS, 1);
+    let mut none = bench(10);
+    none.unit(0, 1, 0, 0, 0);
+    refused(&none, 15, UNITS, 0);
+}
+
+#[test]
+fn rate_of_one() {
+    let mut draft = bench(10);
+    draft.unit(0, 0, 0, 10, 5);
+    assert_eq!(
+        report(&draft),
+        "module avail oper rate qual oee\n\
+         0 1.0000 1.0000 1.0000 0.5000 0.5000\n\
+         tool 1.0000 1.0000 1.0000 0.5000 0.5000\n"
+    );
+    draft.units[0].actual = 11;
+    refused(&draft, 16, NO_LIST, 0);
+}
+
+#[test]
+fn no_uptime() {
+    let mut draft = bench(10);
+    draft.states[0].code = 22;
+    assert_eq!(
+        report(&draft),
+        "module avail oper rate qual oee\n0 0.0000 - - - 0.0000\ntool 0.0000 - - - 0.0000\n"
+    );
+    let doubles = figures(&judged(&draft).unwrap().tool.quantities);
+    assert_eq!(doubles.efficiencies, [Some(0.0), None, None, None]);
+    assert_eq!(doubles.oee.to_bits(), 0);
+    assert_eq!(doubles.product.to_bits(), 0);
+}
+
+#[test]
+fn printed_figures() {
+    assert_eq!(ten_thousandths(1, 20_000), 1);
+    assert_eq!(ten_thousandths(1, 20_001), 0);
+    assert_eq!(ten_thousandths(99_996, 100_000), 10_000);
+    assert_eq!(ten_thousandths(99_994, 100_000), 9_999);
+    let tool = Quantities {
+        total: 3 * WEEK,
+        uptime: 489 * 3_600_000,
+        production: 378 * 3_600_000,
+        actual: 360 * 3_600_000,
+        effective: 344 * 3_600_000 + 1_800_000,
+    };
+    assert_eq!(judged(&case_w()).unwrap().tool.quantities, tool);
+}
+
+#[test]
+fn the_longest_report() {
+    let mut wide = bench(10);
+    wide.modules = 64;
+    (1..64).for_each(|module| wide.state(module, 0, 0));
+    (0..64).for_each(|module| wide.unit(module, 0, 0, 1, 1));
+    assert_eq!(judged(&wide).unwrap().report().len(), 2_494);
+}
+
+#[test]
+fn sums_past_32_and_53_bits() {
+    let mut draft = bench(LONGEST_PERIOD);
+    draft.standards[0].theoretical = 134_217_727;
+    (0..2_000).for_each(|_| draft.unit(0, 0, 0, 65_535, 0));
+    refused(&draft, 16, NO_LIST, 0);
+}

@@ -1,0 +1,122 @@
+//! The sample logs give their expected output, and the figures that the papers print.
+
+use difftest::draft::Draft;
+use difftest::oracle::{account, read};
+use std::fs;
+use std::path::PathBuf;
+
+fn folder() -> PathBuf {
+    PathBuf::from(env!("CARGO_MANIFEST_DIR")).join("../samples")
+}
+
+fn log(name: &str) -> Vec<u8> {
+    fs::read(folder().join(format!("{name}.log"))).expect("a sample log")
+}
+
+fn output(log: &[u8]) -> String {
+    match account(log) {
+        Ok(account) => String::from_utf8(account.report()).expect("text"),
+        Err(refusal) => refusal.line(),
+    }
+}
+
+/// The report of one module, whose tool line has the same figures.
+fn bench_report(figures: &str) -> String {
+    format!("module avail oper rate qual oee\n0 {figures}\ntool {figures}\n")
+}
+
+#[test]
+fn expected_output() {
+    let mut samples = 0;
+    for entry in fs::read_dir(folder()).expect("the samples") {
+        let path = entry.expect("an entry").path();
+        if path.extension().is_some_and(|extension| extension == "log") {
+            let expected = fs::read_to_string(path.with_extension("txt")).expect("its output");
+            assert_eq!(
+                output(&fs::read(&path).expect("its bytes")),
+                expected,
+                "{path:?}"
+            );
+            samples += 1;
+        }
+    }
+    assert_eq!(samples, 9);
+}
+
+/// 002, R1-1 and R1-2, as printed there.
+#[test]
+fn printed_figures_of_002() {
+    assert_eq!(
+        output(&log("r1-1")),
+        bench_report("0.9286 0.9423 0.9841 0.9862 0.8492")
+    );
+    let cluster = "module avail oper rate qual oee\n\
+                   0 0.9702 0.9202 0.9333 0.9321 0.7768\n\
+                   1 0.9405 0.9367 0.9797 0.9586 0.8274\n\
+                   2 1.0000 0.4762 0.9375 1.0000 0.4464\n\
+                   tool 0.9702 0.7730 0.9524 0.9569 0.6835\n";
+    assert_eq!(output(&log("r1-2")), cluster);
+    assert_eq!(output(&log("case-w")), cluster);
+}
+
+/// R1-2's sums in hours, as 002 prints them.
+#[test]
+fn printed_sums_of_002() {
+    let account = account(&log("r1-2")).expect("accepted");
+    let hours = |ms: u64| ms as f64 / 3_600_000.0;
+    let quantities = |sums: difftest::oracle::Sums| sums.quantities.array().map(hours);
+    assert_eq!(
+        quantities(account.modules[0]),
+        [168.0, 163.0, 150.0, 140.0, 130.5]
+    );
+    assert_eq!(
+        quantities(account.modules[1]),
+        [168.0, 158.0, 148.0, 145.0, 139.0]
+    );
+    assert_eq!(
+        quantities(account.modules[2]),
+        [168.0, 168.0, 80.0, 75.0, 75.0]
+    );
+    assert_eq!(
+        quantities(account.tool),
+        [504.0, 489.0, 378.0, 360.0, 344.5]
+    );
+}
+
+/// 003's example by 002's sums: rate 5065.8 over 6144 minutes, quality 4709 over 5065.8.
+#[test]
+fn guidebook_by_sums() {
+    let guidebook = log("guidebook");
+    assert_eq!(
+        output(&guidebook),
+        bench_report("0.7857 0.7758 0.8245 0.9296 0.4672")
+    );
+    let quantities = account(&guidebook).expect("accepted").tool.quantities;
+    let tenths_of_minutes = |ms: u64| ms / 6_000;
+    assert_eq!(tenths_of_minutes(quantities.actual), 50_658);
+    assert_eq!(tenths_of_minutes(quantities.production), 61_440);
+    assert_eq!(tenths_of_minutes(quantities.effective), 47_090);
+}
+
+/// What the etcher shows, and what it would show by the first standard that covers the recipe.
+#[test]
+fn etcher_by_each_standard() {
+    let etcher = log("etcher");
+    assert_eq!(
+        output(&etcher),
+        bench_report("0.9405 0.8861 0.7302 0.9938 0.6047")
+    );
+    let log = read(&etcher).expect("well formed");
+    let first_only = Draft {
+        period: log.header.period,
+        modules: log.header.modules,
+        states: log.states,
+        standards: log.standards[..1].to_vec(),
+        units: log.units,
+        ..Draft::default()
+    };
+    assert_eq!(
+        output(&first_only.bytes()),
+        bench_report("0.9405 0.8861 0.9524 0.9938 0.7887")
+    );
+}
