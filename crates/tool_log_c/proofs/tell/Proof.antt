@@ -1,14 +1,15 @@
 -- `tool_log_c::tell` meets its contract: each verdict has its own arm.
 -- Assumes nothing.
 use borrow.Author.Needs.{needs}
+use mathlib.Core.Path.{refl}
 use Rattle.tool_log_c.proofs.tell.Statement.{statement}
 use Rattle.tool_log_c.proofs.tell.Tie as tie
 
 returns : tie.Need-returns
-returns c = record { flag = cc; why = cc }
+returns c = search needs
 
 returns-2 : tie.Need-returns-2
-returns-2 c = record { flag = cc; why = cc }
+returns-2 c = rw (c .before .before .verdict .given .1) (record { flag = refl; why = refl })
 
 pub tell-spec : {M : Type 1} → statement M
 tell-spec = tie.close (tie.spec (λ c. search needs) (λ c. search needs) returns returns-2)

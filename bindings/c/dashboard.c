@@ -1,0 +1,105 @@
+/* A dashboard's table from a log: dashboard LOG
+ * Prints the state times and the figures of each module and of the tool, `-` where a figure has no base; or the refusal in words.
+ * Exit status: 0 answered, 1 refused, 2 no log. */
+#include <inttypes.h>
+#include <stdio.h>
+
+#include "tool_log.h"
+
+struct row {
+    uint64_t number;
+    const char *word;
+    const char *ground;
+};
+
+#define REFUSAL(number, word, ground) {number, word, ground},
+#define NAME(entry, name) name,
+static const struct row refusals[] = {TL_REFUSALS(REFUSAL)};
+static const char *const lists[] = {TL_LISTS(NAME)};
+static const char *const states[] = {TL_STATES(NAME)};
+static const char *const titles[TL_FIGURES] = {"availability", "operational", "rate", "quality", "OEE", "product"};
+
+static void print_refusal(const uint64_t refusal[3])
+{
+    const struct row *r = &refusals[refusal[TL_NUMBER] - 1];
+    printf("refused: %" PRIu64 " %s: %s (list %s, place %" PRIu64 ")\n", r->number, r->word, r->ground, lists[refusal[TL_LIST]], refusal[TL_PLACE]);
+}
+
+static void print_times(const uint64_t times[6])
+{
+    for (int i = 0; i < TL_TIMES; i++)
+        printf(" %16" PRIu64, times[i]);
+    printf("\n");
+}
+
+static void print_figures(const double figures[6], const uint8_t based[4])
+{
+    for (int i = 0; i < TL_FIGURES; i++) {
+        if (i < TL_BASED && !based[i])
+            printf(" %12s", "-");
+        else
+            printf(" %12.6f", figures[i]);
+    }
+    printf("\n");
+}
+
+static int print_tables(const uint8_t *log, size_t length)
+{
+    uint64_t times[6], refusal[3];
+    double figures[6];
+    uint8_t based[4];
+
+    if (!tl_examine(log, length, TL_LONGEST_REPORT, refusal)) {
+        print_refusal(refusal);
+        return 1;
+    }
+
+    printf("state times, ms\nmodule");
+    for (int i = 0; i < TL_TIMES; i++)
+        printf(" %16s", states[i]);
+    printf("\n");
+    for (size_t m = 0; tl_module_state_times(log, length, m, times, refusal); m++) {
+        printf("%6zu", m);
+        print_times(times);
+    }
+    tl_tool_state_times(log, length, times, refusal);
+    printf("%6s", "tool");
+    print_times(times);
+
+    printf("\nfigures\nmodule");
+    for (int i = 0; i < TL_FIGURES; i++)
+        printf(" %12s", titles[i]);
+    printf("\n");
+    for (size_t m = 0; tl_module_figures(log, length, m, figures, based, refusal); m++) {
+        printf("%6zu", m);
+        print_figures(figures, based);
+    }
+    tl_tool_figures(log, length, figures, based, refusal);
+    printf("%6s", "tool");
+    print_figures(figures, based);
+    return 0;
+}
+
+int main(int argc, char **argv)
+{
+    static uint8_t log[TL_LONGEST_LOG + 1];
+    size_t length;
+    FILE *f;
+
+    if (argc != 2) {
+        fprintf(stderr, "usage: dashboard LOG\n");
+        return 2;
+    }
+    f = fopen(argv[1], "rb");
+    if (!f) {
+        perror(argv[1]);
+        return 2;
+    }
+    length = fread(log, 1, sizeof log, f);
+    if (ferror(f)) {
+        perror(argv[1]);
+        return 2;
+    }
+    fclose(f);
+    return print_tables(log, length);
+}

@@ -1,0 +1,197 @@
+//! Every call on logs packed here: case W, a log with no uptime, and bytes that are refused.
+
+use tool_log::*;
+
+const REPORT: &str = "module avail oper rate qual oee
+0 0.9702 0.9202 0.9333 0.9321 0.7768
+1 0.9405 0.9367 0.9797 0.9586 0.8274
+2 1.0000 0.4762 0.9375 1.0000 0.4464
+tool 0.9702 0.7730 0.9524 0.9569 0.6835
+";
+
+// Bytes from values and widths, most significant bit first.
+fn packed(fields: &[(u64, u32)]) -> Vec<u8> {
+    let mut bits = Vec::new();
+    for &(value, width) in fields {
+        bits.extend((0..width).rev().map(|i| (value >> i & 1) as u8));
+    }
+    bits.chunks(8).map(|byte| byte.iter().fold(0, |n, bit| n << 1 | bit)).collect()
+}
+
+fn header(period: u64, modules: u64, states: u64, standards: u64, units: u64) -> Vec<u8> {
+    packed(&[(period, 35), (modules, 7), (states, 14), (standards, 11), (units, 13)])
+}
+
+fn case_w(late: u64) -> Vec<u8> {
+    let states = [(0, 0, 0), (1, 0, 0), (2, 0, 0), (2, 7, 288000000), (1, 7, 532800000), (0, 7, 540000000), (1, 18, 568800000), (0, 18, 586800000)];
+    let units = [(0, 3600000, 280, 261), (1, 3600000, 290, 278), (2, late, 150, 150)];
+    let mut log = header(604800000, 3, 8, 1, 3);
+    for (module, code, time) in states {
+        log.extend(packed(&[(module, 6), (code, 5), (time, 35), (0, 2)]));
+    }
+    log.extend(packed(&[(0, 10), (0, 35), (1800000, 27)]));
+    for (module, time, actual, effective) in units {
+        log.extend(packed(&[(module, 6), (0, 10), (time, 35), (actual, 16), (effective, 16), (0, 5)]));
+    }
+    log
+}
+
+fn week() -> Vec<u8> {
+    case_w(3600000)
+}
+
+fn idle() -> Vec<u8> {
+    let mut log = header(86400000, 1, 1, 0, 0);
+    log.extend(packed(&[(0, 6), (22, 5), (0, 35), (0, 2)]));
+    log
+}
+
+// Every call on a log that is refused says why, and no byte of a buffer changes.
+fn turned_back(log: &[u8], ground: Ground, list: List, place: u64) {
+    let why = Refusal { ground, list, place };
+    assert_eq!(examine(log, LONGEST_REPORT), Err(why));
+    assert_eq!(examine(log, 0), Err(why));
+    let mut buf = [0xa5; LONGEST_REPORT];
+    assert_eq!(report_into(log, &mut buf), Err(why));
+    assert_eq!(report_into(log, &mut buf[..0]), Err(why));
+    assert_eq!(buf, [0xa5; LONGEST_REPORT]);
+    assert_eq!(report(log), Err(why));
+    assert_eq!(module_count(log), Err(why));
+    assert_eq!(module_state_times(log, 1), Err(why));
+    assert_eq!(module_quantities(log, 1), Err(why));
+    assert_eq!(module_figures(log, 1), Err(why));
+    assert_eq!(tool_state_times(log), Err(why));
+    assert_eq!(tool_quantities(log), Err(why));
+    assert_eq!(tool_figures(log), Err(why));
+}
+
+#[test]
+fn reports() {
+    let log = week();
+    assert_eq!(log.len(), 100);
+    assert_eq!(report(&log).as_deref(), Ok(REPORT));
+    let mut buf = [0xa5; 200];
+    assert_eq!(report_into(&log, &mut buf).map(|part| part.len()), Ok(183));
+    assert_eq!(&buf[..183], REPORT.as_bytes());
+    assert_eq!(buf[183..], [0xa5; 17]);
+}
+
+#[test]
+fn short_buffers() {
+    let short = Refusal { ground: Ground::ShortBuffer, list: List::None, place: 0 };
+    assert_eq!(examine(&week(), 183), Ok(()));
+    for room in [182, 1, 0] {
+        let mut buf = vec![0xa5; room];
+        assert_eq!(examine(&week(), room), Err(short));
+        assert_eq!(report_into(&week(), &mut buf), Err(short));
+        assert_eq!(buf, vec![0xa5; room]);
+    }
+}
+
+#[test]
+fn numbers() {
+    let log = week();
+    assert_eq!(module_count(&log), Ok(3));
+    let module_1 =
+        StateTimes { productive: 532800000, standby: 36000000, engineering: 0, scheduled_down: 0, unscheduled_down: 36000000, nonscheduled: 0 };
+    let tool =
+        StateTimes { productive: 1360800000, standby: 399600000, engineering: 0, scheduled_down: 0, unscheduled_down: 54000000, nonscheduled: 0 };
+    assert_eq!(module_state_times(&log, 1), Ok(module_1));
+    assert_eq!(tool_state_times(&log), Ok(tool));
+    let of_1 = Quantities { total: 604800000, uptime: 568800000, production: 532800000, actual: 522000000, effective: 500400000 };
+    let of_tool = Quantities { total: 1814400000, uptime: 1760400000, production: 1360800000, actual: 1296000000, effective: 1240200000 };
+    assert_eq!(module_quantities(&log, 1), Ok(of_1));
+    assert_eq!(tool_quantities(&log), Ok(of_tool));
+}
+
+fn quotients(q: Quantities) -> Figures {
+    let [total, uptime, production, actual, effective] = [q.total, q.uptime, q.production, q.actual, q.effective].map(|n| n as f64);
+    let (a, o, r, u) = (uptime / total, production / uptime, actual / production, effective / actual);
+    Figures {
+        availability: Efficiency::Ratio(a),
+        operational: Efficiency::Ratio(o),
+        rate: Efficiency::Ratio(r),
+        quality: Efficiency::Ratio(u),
+        oee: effective / total,
+        product: a * o * r * u,
+    }
+}
+
+#[test]
+fn doubles() {
+    let log = week();
+    for m in 0..3 {
+        assert_eq!(module_figures(&log, m), module_quantities(&log, m).map(quotients));
+    }
+    assert_eq!(tool_figures(&log), tool_quantities(&log).map(quotients));
+}
+
+#[test]
+fn no_base() {
+    use Efficiency::*;
+    let figures = Figures { availability: Ratio(0.0), operational: NoBase, rate: NoBase, quality: NoBase, oee: 0.0, product: 0.0 };
+    assert_eq!(module_figures(&idle(), 0), Ok(figures));
+    assert_eq!(tool_figures(&idle()), Ok(figures));
+}
+
+#[test]
+fn a_module_that_is_not_there() {
+    for m in [3, 64, usize::MAX] {
+        let why = Refusal { ground: Ground::StrayModule, list: List::None, place: m as u64 };
+        assert_eq!(module_state_times(&week(), m), Err(why));
+        assert_eq!(module_quantities(&week(), m), Err(why));
+        assert_eq!(module_figures(&week(), m), Err(why));
+    }
+}
+
+#[test]
+fn damaged() {
+    let log = week();
+    turned_back(&[], Ground::NoHeader, List::None, 0);
+    turned_back(&log[..9], Ground::NoHeader, List::None, 0);
+    turned_back(&log[..99], Ground::Length, List::None, 0);
+    turned_back(&[&log[..], &[0]].concat(), Ground::Length, List::None, 0);
+    turned_back(&case_w(604800000), Ground::Outside, List::Units, 2);
+    turned_back(&[&log[..99], &[1]].concat(), Ground::Spare, List::Units, 2);
+}
+
+#[test]
+fn words() {
+    let why = report(&case_w(604800000)).unwrap_err();
+    assert_eq!(why.to_string(), "refused: 9 outside: time or start at or past the period (list units, place 2)");
+    for (i, (ground, _, _)) in GROUNDS.into_iter().enumerate() {
+        assert_eq!(ground as usize, i + 1);
+    }
+}
+
+// The grounds 1 to 5 are worked out here from the header, which hardly any of these outlives.
+#[test]
+fn random_bytes() {
+    let mut seed: u64 = 20261115;
+    let mut next = || {
+        seed = seed.wrapping_mul(6364136223846793005).wrapping_add(1442695040888963407);
+        (seed >> 40) as usize
+    };
+    for turn in 0..2000 {
+        let length = if turn % 4 == 0 { next() % 12 } else { next() % 1024 };
+        let log: Vec<u8> = (0..length).map(|_| (next() >> 16) as u8).collect();
+        if length < 10 {
+            turned_back(&log, Ground::NoHeader, List::None, 0);
+            continue;
+        }
+        let bits = log[..10].iter().fold(0u128, |n, &byte| n << 8 | byte as u128);
+        let field = |from: u32, width: u32| (bits >> (80 - from - width)) as u64 & ((1 << width) - 1);
+        let (period, modules, states, standards, units) = (field(0, 35), field(35, 7), field(42, 14), field(56, 11), field(67, 13));
+        if period == 0 || period > 31622400000 {
+            turned_back(&log, Ground::Period, List::None, 0);
+        } else if modules == 0 || modules > 64 {
+            turned_back(&log, Ground::Modules, List::None, 0);
+        } else if states > 6000 || standards > 512 || units > 2000 {
+            turned_back(&log, Ground::Counts, List::None, 0);
+        } else if length as u64 != 10 + 6 * states + 9 * standards + 11 * units {
+            turned_back(&log, Ground::Length, List::None, 0);
+        } else {
+            assert!(examine(&log, 0).is_err());
+        }
+    }
+}

@@ -1,0 +1,170 @@
+/*
+ * tool_log.h: the packed log of a semiconductor tool, answered: state times, the quantities and efficiencies of SEMI E79, and the shift report.
+ *
+ * Link libtool_log_c.a (x86-64 Linux). It needs nothing but C's memset.
+ *
+ * Every function takes any sequence of bytes as a log and always returns. It keeps no state, allocates nothing and calls nothing back, so threads
+ * may call it at the same time with arrays of their own. It uses less than 64 KiB of stack.
+ *
+ * What a function answers
+ *   1  answered (tl_examine: accepted). The answer's arrays are filled, and `refusal` becomes three zeros.
+ *   0  refused. `refusal` holds number, list and place, and every other array keeps its content.
+ *   tl_report alone answers a length instead, and takes no `refusal`: tl_examine gives the reason.
+ *
+ * What a caller can still do wrong
+ *   - Pass a null pointer. None is taken, not even for a log or a buffer of 0 bytes.
+ *   - Pass an array that is too small. Each has the size written in its parameter, which C does not enforce.
+ *   - Pass a length beyond the end of the log or of the buffer.
+ *   - Pass arrays that overlap one another or the log, or change any of them from another thread during the call.
+ *
+ * Times are whole milliseconds (ms). A module is counted from 0. A log has 1 to 64 modules; asked for a module that an accepted log does not have,
+ * a function refuses with number 7, list 0 and that module as place, so counting up until then visits every module.
+ */
+#ifndef TOOL_LOG_H
+#define TOOL_LOG_H
+
+#include <stddef.h>
+#include <stdint.h>
+
+#ifdef __cplusplus
+extern "C" {
+#endif
+
+/* The longest report, and so a `buf_len` that suffices for every log. */
+#define TL_LONGEST_REPORT 2494
+/* The longest log. TL_LONGEST_LOG + 1 bytes of a longer one are enough to decide that it is refused. */
+#define TL_LONGEST_LOG 62618
+#define TL_MOST_MODULES 64
+
+/* Entries of `times`, in ms: the six states of SEMI E10. X(entry, name) */
+#define TL_STATES(X) \
+    X(0, "productive") \
+    X(1, "standby") \
+    X(2, "engineering") \
+    X(3, "scheduled down") \
+    X(4, "unscheduled down") \
+    X(5, "nonscheduled")
+
+enum {
+    TL_PRODUCTIVE,
+    TL_STANDBY,
+    TL_ENGINEERING,
+    TL_SCHEDULED,
+    TL_UNSCHEDULED,
+    TL_NONSCHEDULED,
+    TL_TIMES
+};
+
+/* Entries of `quantities`, in ms: total time, uptime, production time, and the theoretical production time for actual and for effective units.
+ * None is greater than the one before it. */
+enum { TL_TOTAL, TL_UPTIME, TL_PRODUCTION, TL_ACTUAL, TL_EFFECTIVE, TL_QUANTITIES };
+
+/* Entries of `figures`. The first four are the efficiencies, and `based` has an entry for each of those. OEE and product always have a value.
+ *   availability   uptime over total
+ *   operational    production over uptime
+ *   rate           actual over production
+ *   quality        effective over actual
+ *   OEE            effective over total, the nearest double
+ *   product        availability by operational, by rate, by quality, each rounded once; 0 where one of them has no base */
+enum { TL_AVAILABILITY, TL_OPERATIONAL, TL_RATE, TL_QUALITY, TL_OEE, TL_PRODUCT, TL_FIGURES };
+enum { TL_BASED = 4 };
+
+/* Entries of `refusal`. */
+enum { TL_NUMBER, TL_LIST, TL_PLACE, TL_REFUSAL };
+
+/* What refusal[TL_LIST] says. X(list, name) */
+#define TL_LISTS(X) \
+    X(0, "none") \
+    X(1, "states") \
+    X(2, "standards") \
+    X(3, "units")
+
+/* What refusal[TL_NUMBER] says. X(number, trade word, ground)
+ * refusal[TL_PLACE] is the record's index from 0 in its list, or the module for 11, 16 and a 7 with list 0; it is 0 for 1 to 5, 17 and 18. */
+#define TL_REFUSALS(X) \
+    X(1, "no header", "under 10 bytes") \
+    X(2, "period", "0 or over 31,622,400,000 ms") \
+    X(3, "modules", "0 or over 64") \
+    X(4, "counts", "over 6,000 state records, 512 standards or 2,000 unit records") \
+    X(5, "length", "bytes other than 10 + 6 states + 9 standards + 11 units") \
+    X(6, "spare", "a spare bit set") \
+    X(7, "stray module", "module at or above the module count") \
+    X(8, "stray code", "sub-state code above 23") \
+    X(9, "outside", "time or start at or past the period") \
+    X(10, "sequence", "state record earlier than the one before, or not later than its own module's last") \
+    X(11, "no opening", "a module whose first record is not at time 0, or that has none") \
+    X(12, "no time", "theoretical time 0") \
+    X(13, "twice", "recipe and start both equal to an earlier standard's") \
+    X(14, "over-good", "effective units above actual units") \
+    X(15, "no standard", "none in force for a unit record") \
+    X(16, "too fast", "a module's actual theoretical time above its production time") \
+    X(17, "too great", "a tool sum above 9,007,199,254,740,991 ms") \
+    X(18, "short buffer", "report longer than the buffer")
+
+enum {
+    TL_NO_HEADER = 1,
+    TL_BAD_PERIOD,
+    TL_BAD_MODULES,
+    TL_BAD_COUNTS,
+    TL_BAD_LENGTH,
+    TL_SPARE,
+    TL_STRAY_MODULE,
+    TL_STRAY_CODE,
+    TL_OUTSIDE,
+    TL_SEQUENCE,
+    TL_NO_OPENING,
+    TL_NO_TIME,
+    TL_TWICE,
+    TL_OVER_GOOD,
+    TL_NO_STANDARD,
+    TL_TOO_FAST,
+    TL_TOO_GREAT,
+    TL_SHORT_BUFFER
+};
+
+/*
+ * Whether the log is accepted and its report fits a buffer of `room` bytes. Nothing is written but `refusal`.
+ * Refused with 1 to 17: the log itself. Refused with 18: the log is accepted, and its report is longer than `room`.
+ * With a `room` of TL_LONGEST_REPORT or more the answer is about the log alone.
+ */
+uint32_t tl_examine(const uint8_t *log, size_t log_len, size_t room, uint64_t refusal[3]);
+
+/*
+ * Writes the report to the front of `buf` and answers how many bytes it has, at most TL_LONGEST_REPORT. No 0 byte is added. The bytes of `buf`
+ * behind the report keep their content.
+ * Answers 0, and no byte of `buf` changes, in just the cases that tl_examine refuses for a `room` of buf_len.
+ * The report is text: `module avail oper rate qual oee`, a line for each module, and the tool's line. Its figures are the exact quotients rounded
+ * to four places, an exact half going up, and `-` where there is no base. They are not worked out from the doubles of tl_tool_figures.
+ */
+size_t tl_report(const uint8_t *log, size_t log_len, uint8_t *buf, size_t buf_len);
+
+/*
+ * The six state times of a module, in ms, by TL_STATES. Each is the number of the period's milliseconds that the module was in that state; they add
+ * up to the period. Refused with 1 to 17.
+ */
+uint32_t tl_module_state_times(const uint8_t *log, size_t log_len, size_t module, uint64_t times[6], uint64_t refusal[3]);
+
+/* The six state times of the tool, in ms: each is the sum of its modules'. Refused with 1 to 17. */
+uint32_t tl_tool_state_times(const uint8_t *log, size_t log_len, uint64_t times[6], uint64_t refusal[3]);
+
+/* The five quantities of a module, in ms: total, uptime, production, actual, effective. Refused with 1 to 17. */
+uint32_t tl_module_quantities(const uint8_t *log, size_t log_len, size_t module, uint64_t quantities[5], uint64_t refusal[3]);
+
+/* The five quantities of the tool, in ms: each is the sum of its modules'. Refused with 1 to 17. */
+uint32_t tl_tool_quantities(const uint8_t *log, size_t log_len, uint64_t quantities[5], uint64_t refusal[3]);
+
+/*
+ * The figures of a module: availability, operational, rate, quality, OEE, product, each from 0 to 1.
+ * based[i] is 1 where figures[i] has a base, for i from 0 to 3. It is 0 where the denominator is 0; figures[i] is then NaN, which no comparison
+ * takes for a figure, but based[i] is what to test. Refused with 1 to 17.
+ */
+uint32_t tl_module_figures(const uint8_t *log, size_t log_len, size_t module, double figures[6], uint8_t based[4], uint64_t refusal[3]);
+
+/* The figures of the tool, from its summed quantities and not from its modules' figures. Refused with 1 to 17. */
+uint32_t tl_tool_figures(const uint8_t *log, size_t log_len, double figures[6], uint8_t based[4], uint64_t refusal[3]);
+
+#ifdef __cplusplus
+}
+#endif
+
+#endif
