@@ -32,16 +32,30 @@ bad-length-requires c κs = sym (c .before .bad-counts .ensures) ∙ c .if4 .lef
 
 returns-5 : tie.Need-returns-5
 returns-5 c =
-    let s = c .before .before .before .before .before .before .before .before .before .before .before in
+    let p4 = c .before .before .before in
+    let p3 = p4 .before .before in
+    let p2 = p3 .before .before in
+    let p1 = p2 .before .before in
+    let s = p1 .before .before in
     c .refused5 .ensures
-    ∙ at-length (s .args .log .now) (s .args .h) (s .pre) (c .before .before .before .before .before .before .before .before .before .if1 .left) (sym (c .before .before .before .before .before .before .before .before .bad-period .ensures) ∙ c .before .before .before .before .before .before .before .if2 .left) (sym (c .before .before .before .before .before .before .bad-modules .ensures) ∙ c .before .before .before .before .before .if3 .left)
-    (sym (c .before .before .before .before .bad-counts .ensures) ∙ c .before .before .before .if4 .left) (sym (c .before .before .bad-length .ensures) ∙ c .before .if5 .taken)
+    ∙ at-length (s .args .log .now) (s .args .h) (s .pre) (p1 .if1 .left)
+    (sym (p2 .before .bad-period .ensures) ∙ p2 .if2 .left)
+    (sym (p3 .before .bad-modules .ensures) ∙ p3 .if3 .left)
+    (sym (p4 .before .bad-counts .ensures) ∙ p4 .if4 .left)
+    (sym (c .before .before .bad-length .ensures) ∙ c .before .if5 .taken)
 
 returns-6 : tie.Need-returns-6
 returns-6 c =
-    let s = c .before .before .before .before .before .before .before .before .before .before in
-    all-good (s .args .log .now) (s .args .h) (s .pre) (c .before .before .before .before .before .before .before .before .if1 .left) (sym (c .before .before .before .before .before .before .before .bad-period .ensures) ∙ c .before .before .before .before .before .before .if2 .left) (sym (c .before .before .before .before .before .bad-modules .ensures) ∙ c .before .before .before .before .if3 .left)
-    (sym (c .before .before .before .bad-counts .ensures) ∙ c .before .before .if4 .left) (sym (c .before .bad-length .ensures) ∙ c .if5 .left)
+    let p4 = c .before .before in
+    let p3 = p4 .before .before in
+    let p2 = p3 .before .before in
+    let p1 = p2 .before .before in
+    let s = p1 .before .before in
+    all-good (s .args .log .now) (s .args .h) (s .pre) (p1 .if1 .left)
+    (sym (p2 .before .bad-period .ensures) ∙ p2 .if2 .left)
+    (sym (p3 .before .bad-modules .ensures) ∙ p3 .if3 .left)
+    (sym (p4 .before .bad-counts .ensures) ∙ p4 .if4 .left)
+    (sym (c .before .bad-length .ensures) ∙ c .if5 .left)
 
 pub test-header-spec : {M : Type 1} → statement M
 test-header-spec =
