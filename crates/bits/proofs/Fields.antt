@@ -1,13 +1,13 @@
 -- The laws of `field`: it fits its width, it splits anywhere, and a byte is the field of 8 bits at it. So the number of the bytes that cover a field
 -- gives the field, by a quotient and a remainder.
 -- Assumes nothing.
-use mathlib.Core.Path.{_≡_, refl, sym, _∙_}
+use mathlib.Core.Path.{_≡_, refl, sym, ap, _∙_}
 use mathlib.Core.List.{List}
 use Prim.Native.Nat.{ℕ, zero, suc, _+_, _-_, _*_, _/_, _%_, _^_, _≤_, _<_}
 use native.Mathlib.Nat.{add-zero, zero-add, add-assoc, suc-add, mod-eq-of-lt, pow-suc, mul-assoc, mul-comm, one-mul, add-mul, lt-of-lt-of-le}
 use native.Mathlib.Numerals.{add-one, one-add}
 use native.Mathlib.Omega.{arith}
-use lib.ListN.{getD, take, drop}
+use lib.ListN.{length, getD, take, drop, List·getD-eq-default}
 use lib.Seq.{getD-take, getD-drop}
 use lib.Arith.{digits-lt}
 use lib.Bits.{bitAnd, bitOr, and-mask, or-shifted}
@@ -127,6 +127,25 @@ bytes-field s h q (suc n) = rw (← add-one n, more s q n (h (q + n)), bytes-fie
 pub word : (s : List ℕ) → ((k : ℕ) → getD s k 0 < 256) → (q : ℕ)
     → ((((((getD s q 0 * 256 + getD s (q + 1) 0) * 256 + getD s (q + 2) 0) * 256 + getD s (q + 3) 0) * 256 + getD s (q + 4) 0) * 256 + getD s (q + 5) 0) * 256 + getD s (q + 6) 0) * 256 + getD s (q + 7) 0 ≡ field s (8 * q) 64
 word s h q = rw (bytes-field s h q 8, zero-add, add-zero)
+
+-- bytes past the end are a field of 0
+pub past-zero : (s : List ℕ) (q n : ℕ) → length s ≤ q → field s (8 * q) (8 * n) ≡ 0
+unfolding field
+past-zero s q zero h = refl
+past-zero s q (suc n) h =
+    let z : getD s (q + n) 0 ≡ 0 = List·getD-eq-default {A = ℕ} s 0 {n = q + n} (omega arith) in
+    rw (← add-one n) (more s q n (rw z (omega arith)) ∙ rw (z, past-zero s q n h) refl)
+
+-- the n last bytes of a list, and zeros behind them
+pub padded : (s : List ℕ) (i n : ℕ) → length s ≡ i + n → n < 8 → field s (8 * i) (8 * n) * 2 ^ (64 - 8 * n) % 2 ^ 64 ≡ field s (8 * i) 64
+padded s i n e h =
+    let v = 8 * (8 - n) in
+    let w : 64 - 8 * n ≡ v = omega arith in
+    let t : 64 ≡ 8 * n + v = omega arith in
+    let p : 8 * i + 8 * n ≡ 8 * (i + n) = omega arith in
+    let z : field s (8 * i + 8 * n) v ≡ 0 = rw p (past-zero s (i + n) (8 - n) (omega (arith, e))) in
+    let f : field s (8 * i) 64 ≡ field s (8 * i) (8 * n) * 2 ^ v = ap (field s (8 * i)) t ∙ field-split s (8 * i) (8 * n) v ∙ rw z (add-zero _) in
+    rw (w, ← f) (mod-eq-of-lt (field-lt s (8 * i) 64))
 
 -- a field out of the 64 bits n from byte q on, of which a stand before it
 pub in-word : (s : List ℕ) (q n : ℕ) → n ≡ field s (8 * q) 64 → (a w p : ℕ) → a + w < 64 → 8 * q + a ≡ p → partOf n a w ≡ field s p w

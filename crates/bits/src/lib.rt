@@ -1,15 +1,8 @@
 // Fields of a width at a bit position of a slice of bytes, most significant bit first, read by whole words.
 ghost use mathlib.Core.Path.{_≡_};
 ghost use Prim.Native.Nat.{_+_, _*_, _%_, _<_, _≤_, _^_};
-ghost use lib.ListN.{length, getD};
+ghost use lib.ListN.{length};
 ghost use Rattle.bits.specs.Bits.{field, partOf, widthRead};
-
-// The byte at i, and 0 past the end.
-fn byte_at(s: &[u8], i: usize) -> u8
-    ensures { λ r. ⌜ r ≡ getD (now (s .entry)) i 0 ⌝ }
-{
-    if i < s.len() { s[i] } else { 0 }
-}
 
 // A number whose low byte is 0, with b there. The compiler makes one load of bytes that are put together by `|`, and not by `+`.
 fn with_low_byte(n: u64, b: u8) -> u64
@@ -53,18 +46,28 @@ fn word_within(s: &[u8], i: usize) -> u64
     )
 }
 
-// The 64 bits from byte i on, byte by byte.
+// The n bytes from byte i on, all of them in the slice, as one number.
+fn bytes_within(s: &[u8], i: usize, n: usize) -> u64
+    requires { ⌜ (i + n ≤ length (now s)) × (n < 8) ⌝ }
+    ensures { λ r. ⌜ r ≡ field (now (s .entry)) (8 * i) (8 * n) ⌝ }
+{
+    let mut word: u64 = 0;
+    for k in 0..n {
+        word = word * 256 + s[i + k] as u64;
+    }
+    word
+}
+
+// The 64 bits from byte i on, not all of them in the slice.
 fn word_past_end(s: &[u8], i: usize) -> u64
-    requires { ⌜ i < 2 ^ 62 ⌝ }
+    requires { ⌜ length (now s) < i + 8 ⌝ }
     ensures { λ r. ⌜ r ≡ field (now (s .entry)) (8 * i) 64 ⌝ }
 {
-    let mut n: u64 = 0;
-    let mut k: usize = 0;
-    while k < 8 {
-        n = n * 256 + byte_at(s, i + k) as u64;
-        k += 1;
+    if s.len() <= i {
+        return 0;
     }
-    n
+    let n = s.len() - i;
+    bytes_within(s, i, n) << (64 - 8 * n)
 }
 
 // The 64 bits from byte i on, by one load where all eight bytes are there.

@@ -164,9 +164,11 @@ module _ (l : Log) (g : Grounded l) where
     pub sums-good : Summed l Accepted
     sums-good = record { answer = sym (decided ∙ ap (ground 17 0 0) (none-over l (sound l g fast))); sound = λ e. sound l g fast }
 
-    -- neither can hold
-    pub sums-never : (b : Bool) → b ≡ true → (b ≡ true → anyOver (ofTool l) || anyTimeOver (toolTimes l) ≡ true) → (v : Verdict) → Summed l v
-    sums-never b e h v = let z : true ≡ false = sym (h e) ∙ none-over l (sound l g fast) in let q : _≡_ {A = ℕ} 0 1 = cc in absurd (omega arith)
+    -- neither can hold; the answer is held to 17, list 0 and place 0 all the same
+    pub sums-never : (b : Bool) → b ≡ true → (b ≡ true → anyOver (ofTool l) || anyTimeOver (toolTimes l) ≡ true) → (v : Verdict)
+        → v ≡ Refused (record { number = 17; list = 0; place = 0 })
+        → Summed l v
+    sums-never b e h v said = let z : true ≡ false = sym (h e) ∙ none-over l (sound l g fast) in let q : _≡_ {A = ℕ} 0 1 = cc in absurd (omega arith)
 
 pub left-over : (a b : Bool) → a ≡ true → a || b ≡ true
 left-over a b e = rw e

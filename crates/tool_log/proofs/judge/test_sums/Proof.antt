@@ -33,7 +33,7 @@ returns-2 c =
     let s = f .before .before .before .before in
     let l = decode (s .args .log .now) in
     sums-never l (s .pre .1 .1) (fast f) (c .before .before .over-quantities .result) (c .before .if1 .taken)
-    (λ e. left-over (anyOver (ofTool l)) (anyTimeOver (toolTimes l)) (ap anyOver (sym (c .before .before .before .tool-sums .ensures)) ∙ sym (c .before .before .over-quantities .ensures) ∙ e)) (c .refused .result)
+    (λ e. left-over (anyOver (ofTool l)) (anyTimeOver (toolTimes l)) (ap anyOver (sym (c .before .before .before .tool-sums .ensures)) ∙ sym (c .before .before .over-quantities .ensures) ∙ e)) (c .refused .result) (c .refused .ensures)
 
 tool-times-requires : tie.Need-tool-times-requires
 tool-times-requires c κs = let f = c .before .before .before in let s = f .before .before .before .before in (s .pre .0 .1, (s .pre .1 .0, sound (decode (s .args .log .now)) (s .pre .1 .1) (fast f)))
@@ -44,7 +44,7 @@ returns-3 c =
     let s = f .before .before .before .before in
     let l = decode (s .args .log .now) in
     sums-never l (s .pre .1 .1) (fast f) (c .before .before .over-times .result) (c .before .if2 .taken)
-    (λ e. right-over (anyOver (ofTool l)) (anyTimeOver (toolTimes l)) (ap anyTimeOver (sym (c .before .before .before .tool-times .ensures)) ∙ sym (c .before .before .over-times .ensures) ∙ e)) (c .refused2 .result)
+    (λ e. right-over (anyOver (ofTool l)) (anyTimeOver (toolTimes l)) (ap anyTimeOver (sym (c .before .before .before .tool-times .ensures)) ∙ sym (c .before .before .over-times .ensures) ∙ e)) (c .refused2 .result) (c .refused2 .ensures)
 
 returns-4 : tie.Need-returns-4
 returns-4 c =
