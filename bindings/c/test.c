@@ -229,8 +229,24 @@ static void random_bytes(void)
     }
 }
 
+/* The header's tables count up, so that a number is an index. */
+static void tables(void)
+{
+#define NUMBER(number, word, ground) number,
+#define ENTRY(entry, name) entry,
+    const int numbers[] = {TL_REFUSALS(NUMBER)}, lists[] = {TL_LISTS(ENTRY)}, states[] = {TL_STATES(ENTRY)};
+    CHECK(sizeof numbers / sizeof *numbers == TL_SHORT_BUFFER && sizeof lists / sizeof *lists == 4 && sizeof states / sizeof *states == TL_TIMES);
+    for (int i = 0; i < TL_SHORT_BUFFER; i++)
+        CHECK(numbers[i] == i + 1);
+    for (int i = 0; i < 4; i++)
+        CHECK(lists[i] == i);
+    for (int i = 0; i < TL_TIMES; i++)
+        CHECK(states[i] == i);
+}
+
 int main(void)
 {
+    tables();
     case_w();
     no_uptime();
     damaged();

@@ -1,6 +1,8 @@
 """Tests tool_log.py on logs packed here: case W, a log with no uptime, and bytes that are refused."""
 
+import pathlib
 import random
+import re
 import unittest
 
 import tool_log
@@ -132,6 +134,11 @@ class Calls(unittest.TestCase):
     def test_words(self):
         refused = self.refused(9, 3, 2, tool_log.report, case_w(late=604800000))
         self.assertEqual(str(refused), "refused: 9 outside: time or start at or past the period (list units, place 2)")
+
+    def test_header_says_the_same(self):
+        header = (pathlib.Path(__file__).resolve().parent / "../../include/tool_log.h").read_text()
+        rows = {int(n): (word, ground) for n, word, ground in re.findall(r'X\((\d+), "([^"]*)", "([^"]*)"\)', header)}
+        self.assertEqual(rows, tool_log.REFUSALS)
 
     def test_random_bytes(self):
         # The grounds 1 to 5 are worked out here from the header, which hardly any of these outlives.

@@ -164,6 +164,15 @@ fn words() {
     }
 }
 
+#[test]
+fn the_header_says_the_same() {
+    let header = include_str!("../../../include/tool_log.h");
+    for (ground, word, says) in GROUNDS {
+        assert!(header.contains(&format!("X({}, \"{word}\", \"{says}\")", ground as u8)));
+    }
+    assert!(header.contains(&format!("TL_LONGEST_REPORT {LONGEST_REPORT}\n")) && header.contains(&format!("TL_LONGEST_LOG {LONGEST_LOG}\n")));
+}
+
 // The grounds 1 to 5 are worked out here from the header, which hardly any of these outlives.
 #[test]
 fn random_bytes() {
