@@ -10,9 +10,9 @@ use native.Mathlib.Omega.{arith}
 use lib.ListN.{length, getD, take, drop, List·getD-eq-default}
 use lib.Seq.{getD-take, getD-drop}
 use lib.Arith.{digits-lt}
-use lib.Bits.{bitAnd, bitOr, and-mask, or-shifted}
+use lib.Bits.{bitAnd, and-mask}
 use lib.Pow.{pow-lt, pow-mono, pow-add, mod-pow-add, shr-shr, high, low}
-use Rattle.bits.specs.Bits.{bit, field, partOf}
+use Rattle.bits.specs.Bits.{bit, field, swappedOf, partOf}
 use Rattle.bits.specs.Put.{number}
 
 pub bit-lt : (s : List ℕ) (i : ℕ) → bit s i < 2
@@ -65,6 +65,18 @@ cut s i u w c = simp field-number (number-cut (bit s) (bit-lt s) i u w c)
 -- the last w bits
 pub tail : (s : List ℕ) (i u w : ℕ) → field s i (u + w) % 2 ^ w ≡ field s (i + u) w
 tail s i u w = rw (field-split s i u w) (low _ w (field-lt s (i + u) w))
+
+-- the first u bits
+pub front : (s : List ℕ) (i u c : ℕ) → field s i (u + c) / 2 ^ c ≡ field s i u
+front s i u c = rw (field-split s i u c) (high _ c (field-lt s (i + u) c))
+
+-- w bits of n, by the bits ahead of them and the place that they come to
+pub cut-at : (s : List ℕ) (i u w c n p : ℕ) → u + (w + c) ≡ n → i + u ≡ p → field s i n / 2 ^ c % 2 ^ w ≡ field s p w
+cut-at s i u w c n p e d = rw (← e, ← d) (cut s i u w c)
+
+-- the last w bits of n
+pub tail-at : (s : List ℕ) (i u w n p : ℕ) → u + w ≡ n → i + u ≡ p → field s i n % 2 ^ w ≡ field s p w
+tail-at s i u w n p e d = rw (← e, ← d) (tail s i u w)
 
 -- equal bits make equal fields
 pub field-same : (s t : List ℕ) (i w : ℕ) → ((j : ℕ) → i ≤ j → j < i + w → bit s j ≡ bit t j) → field s i w ≡ field t i w
@@ -128,6 +140,47 @@ pub word : (s : List ℕ) → ((k : ℕ) → getD s k 0 < 256) → (q : ℕ)
     → ((((((getD s q 0 * 256 + getD s (q + 1) 0) * 256 + getD s (q + 2) 0) * 256 + getD s (q + 3) 0) * 256 + getD s (q + 4) 0) * 256 + getD s (q + 5) 0) * 256 + getD s (q + 6) 0) * 256 + getD s (q + 7) 0 ≡ field s (8 * q) 64
 word s h q = rw (bytes-field s h q 8, zero-add, add-zero)
 
+-- a digit below 256 with u above it and l below
+digit-at : (k n l x u : ℕ) → n ≡ (u * 256 + x) * 2 ^ k + l → l < 2 ^ k → x < 256 → n / 2 ^ k % 256 ≡ x
+digit-at k n l x u e h b = rw (e, high (u * 256 + x) k h) (omega arith)
+
+-- eight digits in the opposite sequence
+module _ (a b c d e f g h : ℕ) (la : a < 256) (lb : b < 256) (lc : c < 256) (ld : d < 256) (le : e < 256) (lf : f < 256) (lg : g < 256) (lh : h < 256) where
+  abbrev n : ℕ
+  n = a + b * 2 ^ 8 + c * 2 ^ 16 + d * 2 ^ 24 + e * 2 ^ 32 + f * 2 ^ 40 + g * 2 ^ 48 + h * 2 ^ 56
+
+  swapped-digits : swappedOf n ≡ ((((((a * 256 + b) * 256 + c) * 256 + d) * 256 + e) * 256 + f) * 256 + g) * 256 + h
+  swapped-digits =
+      let l1 : ℕ = a in
+      let l2 : ℕ = l1 + b * 2 ^ 8 in
+      let l3 : ℕ = l2 + c * 2 ^ 16 in
+      let l4 : ℕ = l3 + d * 2 ^ 24 in
+      let l5 : ℕ = l4 + e * 2 ^ 32 in
+      let l6 : ℕ = l5 + f * 2 ^ 40 in
+      let l7 : ℕ = l6 + g * 2 ^ 48 in
+      let u6 : ℕ = h * 256 + g in
+      let u5 : ℕ = u6 * 256 + f in
+      let u4 : ℕ = u5 * 256 + e in
+      let u3 : ℕ = u4 * 256 + d in
+      let u2 : ℕ = u3 * 256 + c in
+      let u1 : ℕ = u2 * 256 + b in
+      let e0 : n % 256 ≡ a = omega arith in
+      let e1 : n / 2 ^ 8 % 256 ≡ b = digit-at 8 n l1 b u2 (omega arith) (omega arith) lb in
+      let e2 : n / 2 ^ 16 % 256 ≡ c = digit-at 16 n l2 c u3 (omega arith) (omega arith) lc in
+      let e3 : n / 2 ^ 24 % 256 ≡ d = digit-at 24 n l3 d u4 (omega arith) (omega arith) ld in
+      let e4 : n / 2 ^ 32 % 256 ≡ e = digit-at 32 n l4 e u5 (omega arith) (omega arith) le in
+      let e5 : n / 2 ^ 40 % 256 ≡ f = digit-at 40 n l5 f u6 (omega arith) (omega arith) lf in
+      let e6 : n / 2 ^ 48 % 256 ≡ g = digit-at 48 n l6 g h (omega arith) (omega arith) lg in
+      let e7 : n / 2 ^ 56 % 256 ≡ h = digit-at 56 n l7 h 0 (omega arith) (omega arith) lh in
+      rw (e0, e1, e2, e3, e4, e5, e6, e7) (omega arith)
+
+-- eight bytes, the first the least significant, in the opposite sequence
+pub swapped-word : (s : List ℕ) → ((k : ℕ) → getD s k 0 < 256) → (q : ℕ)
+    → swappedOf (getD s q 0 + getD s (q + 1) 0 * 2 ^ 8 + getD s (q + 2) 0 * 2 ^ 16 + getD s (q + 3) 0 * 2 ^ 24 + getD s (q + 4) 0 * 2 ^ 32 + getD s (q + 5) 0 * 2 ^ 40
+    + getD s (q + 6) 0 * 2 ^ 48 + getD s (q + 7) 0 * 2 ^ 56) ≡ field s (8 * q) 64
+swapped-word s h q =
+    swapped-digits _ _ _ _ _ _ _ _ (h q) (h (q + 1)) (h (q + 2)) (h (q + 3)) (h (q + 4)) (h (q + 5)) (h (q + 6)) (h (q + 7)) ∙ word s h q
+
 -- bytes past the end are a field of 0
 pub past-zero : (s : List ℕ) (q n : ℕ) → length s ≤ q → field s (8 * q) (8 * n) ≡ 0
 unfolding field
@@ -165,9 +218,3 @@ pub taken : (n a w : ℕ) → a + w < 64 → bitAnd (n / 2 / 2 ^ (63 - a - w)) (
 taken n a w h =
     let e : 64 - a - w ≡ 1 + (63 - a - w) = omega arith in
     rw (mask _ w (omega arith), shr-shr n 1 (63 - a - w), e)
-
--- a byte put where there is none
-pub or-low : (n b : ℕ) → n % 256 ≡ 0 → b < 256 → bitOr n b ≡ n + b
-or-low n b e h =
-    let d : n / 256 * 256 ≡ n = omega arith in
-    rw d at (or-shifted (n / 256) 8 b h)

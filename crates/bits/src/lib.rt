@@ -2,39 +2,28 @@
 ghost use mathlib.Core.Path.{_≡_};
 ghost use Prim.Native.Nat.{_+_, _*_, _%_, _<_, _≤_, _^_};
 ghost use lib.ListN.{length};
-ghost use Rattle.bits.specs.Bits.{field, partOf, widthRead};
+ghost use Rattle.bits.specs.Bits.{field, swappedOf, partOf, widthRead};
 
-// A number whose low byte is 0, with b there. The compiler makes one load of bytes that are put together by `|`, and not by `+`.
-fn with_low_byte(n: u64, b: u8) -> u64
-    requires { ⌜ n % 256 ≡ 0 ⌝ }
-    ensures { λ r. ⌜ r ≡ n + b ⌝ }
+// Eight bytes as one number, the first the least significant.
+fn little(a: u8, b: u8, c: u8, d: u8, e: u8, f: u8, g: u8, h: u8) -> u64
+    ensures { λ r. ⌜ r ≡ a + b * 2 ^ 8 + c * 2 ^ 16 + d * 2 ^ 24 + e * 2 ^ 32 + f * 2 ^ 40 + g * 2 ^ 48 + h * 2 ^ 56 ⌝ }
 {
-    n | b as u64
+    a as u64
+        + b as u64 * 0x100
+        + c as u64 * 0x1_0000
+        + d as u64 * 0x100_0000
+        + e as u64 * 0x1_0000_0000
+        + f as u64 * 0x100_0000_0000
+        + g as u64 * 0x1_0000_0000_0000
+        + h as u64 * 0x100_0000_0000_0000
 }
 
-// Four bytes as one number, the first the most significant.
-fn half(a: u8, b: u8, c: u8, d: u8) -> u64
-    ensures { λ r. ⌜ r ≡ ((a * 256 + b) * 256 + c) * 256 + d ⌝ }
-{
-    with_low_byte(
-        a as u64 * 0x100_0000 + b as u64 * 0x1_0000 + c as u64 * 0x100,
-        d,
-    )
-}
-
-// Eight bytes as one number, the first the most significant.
-fn joined(a: u8, b: u8, c: u8, d: u8, e: u8, f: u8, g: u8, h: u8) -> u64
-    ensures { λ r. ⌜ r ≡ ((((((a * 256 + b) * 256 + c) * 256 + d) * 256 + e) * 256 + f) * 256 + g) * 256 + h ⌝ }
-{
-    half(a, b, c, d) * 0x1_0000_0000 + half(e, f, g, h)
-}
-
-// The 64 bits from byte i on, all of them in the slice.
-fn word_within(s: &[u8], i: usize) -> u64
+// The eight bytes from byte i on in the machine's own sequence, so that the compiler makes them one load.
+fn little_word(s: &[u8], i: usize) -> u64
     requires { ⌜ i + 8 ≤ length (now s) ⌝ }
-    ensures { λ r. ⌜ r ≡ field (now (s .entry)) (8 * i) 64 ⌝ }
+    ensures { λ r. ⌜ swappedOf r ≡ field (now (s .entry)) (8 * i) 64 ⌝ }
 {
-    joined(
+    little(
         s[i],
         s[i + 1],
         s[i + 2],
@@ -44,6 +33,29 @@ fn word_within(s: &[u8], i: usize) -> u64
         s[i + 6],
         s[i + 7],
     )
+}
+
+// A number's eight bytes in the opposite sequence, which the compiler makes one instruction.
+fn swapped(n: u64) -> u64
+    ensures { λ r. ⌜ r ≡ swappedOf n ⌝ }
+{
+    n % 0x100 * 0x100_0000_0000_0000
+        + n / 0x100 % 0x100 * 0x1_0000_0000_0000
+        + n / 0x1_0000 % 0x100 * 0x100_0000_0000
+        + n / 0x100_0000 % 0x100 * 0x1_0000_0000
+        + n / 0x1_0000_0000 % 0x100 * 0x100_0000
+        + n / 0x100_0000_0000 % 0x100 * 0x1_0000
+        + n / 0x1_0000_0000_0000 % 0x100 * 0x100
+        + n / 0x100_0000_0000_0000 % 0x100
+}
+
+// The 64 bits from byte i on, all of them in the slice. Joined first byte first they would be one load only for a caller that needs all eight: the
+// compiler drops the bytes that fields cut out of the word leave out, and then loads one by one what is left.
+pub fn word_within(s: &[u8], i: usize) -> u64
+    requires { ⌜ i + 8 ≤ length (now s) ⌝ }
+    ensures { λ r. ⌜ r ≡ field (now (s .entry)) (8 * i) 64 ⌝ }
+{
+    swapped(little_word(s, i))
 }
 
 // The n bytes from byte i on, all of them in the slice, as one number.

@@ -1,7 +1,10 @@
-// The header and the three kinds of record of a log, each read by its index, for every slice and every index: a byte past the end counts as 0.
+// The header and the three kinds of record of a log, each read by its index: for every slice and every index, a byte past the end counting as 0, and,
+// for the passes over a log whose length is tested, without a test where the record is in the slice.
 ghost use mathlib.Core.Path.{_≡_};
-ghost use Prim.Native.Nat.{_*_, _<_};
-ghost use lib.ListN.{drop};
+ghost use mathlib.Core.List.{List};
+ghost use Prim.Native.Nat.{ℕ, _+_, _*_, _<_, _≤_};
+ghost use lib.ListN.{length, drop};
+ghost use Rattle.bits.specs.Bits.{field};
 ghost use Rattle.records.specs.Fields.{headerFrom, stateFrom, standardFrom, unitFrom};
 ghost use Rattle.records.specs.Log.{headerOf, stateAt, standardAt, unitAt};
 
@@ -68,11 +71,10 @@ pub fn read_header(log: &[u8]) -> Header
     }
 }
 
-// The state record at the front of a slice.
-fn front_state(s: &[u8]) -> StateRecord
-    ensures { λ r. ⌜ r ≡ stateFrom (now (s .entry)) 0 ⌝ }
+// The state record in the last 48 bits of a word.
+fn state_in(word: u64) -> StateRecord
+    ensures { λ r. ⌜ ((s : List ℕ) (p u : ℕ) → word ≡ field s p (u + 48) → r ≡ stateFrom s (p + u)) ⌝ }
 {
-    let word = bits::read_field(s, 0, 48);
     StateRecord {
         module: (word / 0x400_0000_0000 % 0x40) as usize,
         code: (word / 0x20_0000_0000 % 0x20) as usize,
@@ -81,25 +83,21 @@ fn front_state(s: &[u8]) -> StateRecord
     }
 }
 
-// The standard at the front of a slice.
-fn front_standard(s: &[u8]) -> Standard
-    ensures { λ r. ⌜ r ≡ standardFrom (now (s .entry)) 0 ⌝ }
+// The standard whose first 45 bits are a word, and whose other 27 are the last ones of a second word.
+fn standard_in(first: u64, second: u64) -> Standard
+    ensures { λ r. ⌜ ((s : List ℕ) (p q u : ℕ) → first ≡ field s p 45 → second ≡ field s q (u + 27) → q + u ≡ p + 45 → r ≡ standardFrom s p) ⌝ }
 {
-    let first = bits::read_field(s, 0, 45);
-    let second = bits::read_field(s, 45, 27);
     Standard {
         recipe: (first / 0x8_0000_0000 % 0x400) as usize,
         start: first % 0x8_0000_0000,
-        theoretical: second,
+        theoretical: second % 0x800_0000,
     }
 }
 
-// The unit record at the front of a slice.
-fn front_unit(s: &[u8]) -> UnitRecord
-    ensures { λ r. ⌜ r ≡ unitFrom (now (s .entry)) 0 ⌝ }
+// The unit record whose first 51 bits are a word, and whose other 37 are the last ones of a second word.
+fn unit_in(first: u64, second: u64) -> UnitRecord
+    ensures { λ r. ⌜ ((s : List ℕ) (p q u : ℕ) → first ≡ field s p 51 → second ≡ field s q (u + 37) → q + u ≡ p + 51 → r ≡ unitFrom s p) ⌝ }
 {
-    let first = bits::read_field(s, 0, 51);
-    let second = bits::read_field(s, 51, 37);
     UnitRecord {
         module: (first / 0x2000_0000_0000 % 0x40) as usize,
         recipe: (first / 0x8_0000_0000 % 0x400) as usize,
@@ -108,6 +106,27 @@ fn front_unit(s: &[u8]) -> UnitRecord
         effective: second / 0x20 % 0x1_0000,
         spare: second % 0x20,
     }
+}
+
+// The state record at the front of a slice.
+fn front_state(s: &[u8]) -> StateRecord
+    ensures { λ r. ⌜ r ≡ stateFrom (now (s .entry)) 0 ⌝ }
+{
+    state_in(bits::read_field(s, 0, 48))
+}
+
+// The standard at the front of a slice.
+fn front_standard(s: &[u8]) -> Standard
+    ensures { λ r. ⌜ r ≡ standardFrom (now (s .entry)) 0 ⌝ }
+{
+    standard_in(bits::read_field(s, 0, 45), bits::read_field(s, 45, 27))
+}
+
+// The unit record at the front of a slice.
+fn front_unit(s: &[u8]) -> UnitRecord
+    ensures { λ r. ⌜ r ≡ unitFrom (now (s .entry)) 0 ⌝ }
+{
+    unit_in(bits::read_field(s, 0, 51), bits::read_field(s, 51, 37))
 }
 
 // State record i.
@@ -136,4 +155,35 @@ pub fn unit_record(log: &[u8], h: Header, i: usize) -> UnitRecord
         i,
         11,
     ))
+}
+
+// State record i, where all of it is in the log: the last six of eight bytes, since behind it there may be no more. The caller owes that, as it does
+// for the next two: a log whose length its header gives holds all its records, and a pass over them need not ask again at each.
+pub fn state_within(log: &[u8], i: usize) -> StateRecord
+    requires { ⌜ 10 + 6 * i + 6 ≤ length (now log) ⌝ }
+    ensures { λ r. ⌜ r ≡ stateAt (now (log .entry)) i ⌝ }
+{
+    state_in(bits::word_within(log, 8 + 6 * i))
+}
+
+// Standard i of a log with this header, where all of it is in the log.
+pub fn standard_within(log: &[u8], h: Header, i: usize) -> Standard
+    requires { ⌜ 10 + 6 * h .states + 9 * i + 9 ≤ length (now log) ⌝ }
+    ensures { λ r. ⌜ r ≡ standardAt (now (log .entry)) h i ⌝ }
+{
+    let at = 10 + 6 * h.states + 9 * i;
+    let first = bits::word_within(log, at) / 0x8_0000;
+    let second = bits::word_within(log, at + 1);
+    standard_in(first, second)
+}
+
+// Unit record i of a log with this header, where all of it is in the log.
+pub fn unit_within(log: &[u8], h: Header, i: usize) -> UnitRecord
+    requires { ⌜ 10 + 6 * h .states + 9 * h .standards + 11 * i + 11 ≤ length (now log) ⌝ }
+    ensures { λ r. ⌜ r ≡ unitAt (now (log .entry)) h i ⌝ }
+{
+    let at = 10 + 6 * h.states + 9 * h.standards + 11 * i;
+    let first = bits::word_within(log, at) / 0x2000;
+    let second = bits::word_within(log, at + 3);
+    unit_in(first, second)
 }

@@ -1,22 +1,11 @@
--- `records::front_state` meets its contract: each field is cut out of the 48 bits read.
--- Assumes nothing.
+-- `records::front_state` meets its contract: the record is the 48 bits read. Assumes nothing.
 use borrow.Author.Needs.{needs}
-use Rattle.bits.proofs.Fields.{cut, tail}
-use Rattle.records.specs.Fields.{stateFrom}
+use mathlib.Core.Path.{refl}
 use Rattle.records.proofs.front_state.Statement.{statement}
 use Rattle.records.proofs.front_state.Tie as tie
 
 returns : tie.Need-returns
-unfolding stateFrom
-returns c =
-    let s = c .before .before .args .s .now in
-    rw (
-      c .read-field .ensures,
-      cut s 0 0 6 42,
-      cut s 0 6 5 37,
-      cut s 0 11 35 2,
-      tail s 0 46 2,
-    )
+returns c = c .state-in .ensures (c .before .before .before .args .s .now) 0 0 (c .before .read-field .ensures)
 
 pub front-state-spec : {M : Type 1} → statement M
-front-state-spec = tie.close (tie.spec (λ c κs. search needs) returns)
+front-state-spec = tie.close (tie.spec (λ c κs. search needs) (λ c κs. search needs) returns)

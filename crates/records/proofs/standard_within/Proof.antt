@@ -1,0 +1,19 @@
+-- `records::standard_within` meets its contract: the first 45 bits are those of the eight bytes that it begins with, and the last 27 end the eight that it ends with. Assumes nothing.
+use borrow.Author.Needs.{needs}
+use native.Mathlib.Omega.{arith}
+use mathlib.Core.Path.{ap, _∙_}
+use Prim.Native.Nat.{_+_, _*_}
+use Rattle.bits.proofs.Fields.{front}
+use Rattle.records.specs.Fields.{standardFrom}
+use Rattle.records.proofs.standard_within.Statement.{statement}
+use Rattle.records.proofs.standard_within.Tie as tie
+
+returns : tie.Need-returns
+returns c =
+    let a = c .before .before .before .before .before .args in
+    let at = 10 + 6 * a .h .states + 9 * a .i in
+    c .standard-in .ensures (a .log .now) (8 * at) (8 * (at + 1)) 37 (rw (c .before .before .word-within .ensures) (front (a .log .now) (8 * at) 45 19)) (c .before .word-within2 .ensures) (omega arith)
+    ∙ ap (standardFrom (a .log .now)) (omega arith)
+
+pub standard-within-spec : {M : Type 1} → statement M
+standard-within-spec = tie.close (tie.spec (λ c. search needs) (λ c. search needs) (λ c. search needs) (λ c. search needs) (λ c κs. search needs) (λ c. search needs) (λ c κs. search needs) (λ c κs. search needs) returns)

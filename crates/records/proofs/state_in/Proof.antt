@@ -1,0 +1,22 @@
+-- `records::state_in` meets its contract: each field is cut out of the word. Assumes nothing.
+use native.Mathlib.Omega.{arith}
+use Prim.Native.Nat.{_+_}
+use borrow.Author.Needs.{needs}
+use Rattle.bits.proofs.Fields.{cut-at, tail-at}
+use Rattle.records.specs.Fields.{stateFrom}
+use Rattle.records.proofs.state_in.Statement.{statement}
+use Rattle.records.proofs.state_in.Tie as tie
+
+returns : tie.Need-returns
+unfolding stateFrom
+returns c = λ s p u e.
+    rw (
+      e,
+      cut-at s p u 6 42 (u + 48) (p + u) (omega arith) (omega arith),
+      cut-at s p (u + 6) 5 37 (u + 48) (p + u + 6) (omega arith) (omega arith),
+      cut-at s p (u + 11) 35 2 (u + 48) (p + u + 11) (omega arith) (omega arith),
+      tail-at s p (u + 46) 2 (u + 48) (p + u + 46) (omega arith) (omega arith),
+    )
+
+pub state-in-spec : {M : Type 1} → statement M
+state-in-spec = tie.close (tie.spec returns)

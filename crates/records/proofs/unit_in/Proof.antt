@@ -1,0 +1,25 @@
+-- `records::unit_in` meets its contract: each field is cut out of the words. Assumes nothing.
+use borrow.Author.Needs.{needs}
+use native.Mathlib.Omega.{arith}
+use Prim.Native.Nat.{_+_}
+use Rattle.bits.proofs.Fields.{cut-at, tail-at}
+use Rattle.records.specs.Fields.{unitFrom}
+use Rattle.records.proofs.unit_in.Statement.{statement}
+use Rattle.records.proofs.unit_in.Tie as tie
+
+returns : tie.Need-returns
+unfolding unitFrom
+returns c = λ s p q u a b e.
+    rw (
+      a,
+      b,
+      cut-at s p 0 6 45 51 p (omega arith) (omega arith),
+      cut-at s p 6 10 35 51 (p + 6) (omega arith) (omega arith),
+      tail-at s p 16 35 51 (p + 16) (omega arith) (omega arith),
+      cut-at s q u 16 21 (u + 37) (p + 51) (omega arith) e,
+      cut-at s q (u + 16) 16 5 (u + 37) (p + 67) (omega arith) (omega (arith, e)),
+      tail-at s q (u + 32) 5 (u + 37) (p + 83) (omega arith) (omega (arith, e)),
+    )
+
+pub unit-in-spec : {M : Type 1} → statement M
+unit-in-spec = tie.close (tie.spec returns)

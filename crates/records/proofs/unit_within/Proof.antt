@@ -1,0 +1,19 @@
+-- `records::unit_within` meets its contract: the first 51 bits are those of the eight bytes that it begins with, and the last 37 end the eight that it ends with. Assumes nothing.
+use borrow.Author.Needs.{needs}
+use native.Mathlib.Omega.{arith}
+use mathlib.Core.Path.{ap, _∙_}
+use Prim.Native.Nat.{_+_, _*_}
+use Rattle.bits.proofs.Fields.{front}
+use Rattle.records.specs.Fields.{unitFrom}
+use Rattle.records.proofs.unit_within.Statement.{statement}
+use Rattle.records.proofs.unit_within.Tie as tie
+
+returns : tie.Need-returns
+returns c =
+    let a = c .before .before .before .before .before .before .args in
+    let at = 10 + 6 * a .h .states + 9 * a .h .standards + 11 * a .i in
+    c .unit-in .ensures (a .log .now) (8 * at) (8 * (at + 3)) 27 (rw (c .before .before .word-within .ensures) (front (a .log .now) (8 * at) 51 13)) (c .before .word-within2 .ensures) (omega arith)
+    ∙ ap (unitFrom (a .log .now)) (omega arith)
+
+pub unit-within-spec : {M : Type 1} → statement M
+unit-within-spec = tie.close (tie.spec (λ c. search needs) (λ c. search needs) (λ c. search needs) (λ c. search needs) (λ c. search needs) (λ c. search needs) (λ c κs. search needs) (λ c. search needs) (λ c κs. search needs) (λ c κs. search needs) returns)
