@@ -4,7 +4,7 @@
 // Both public calls end in `_of_ordered` and have a `requires`, so they are not for a buyer to link: they are called where that is shown, as it is
 // of the quantities of every accepted log.
 ghost use mathlib.Core.Path.{_≡_};
-ghost use Prim.Native.Nat.{_<_};
+ghost use Prim.Native.Nat.{_<_, _^_};
 ghost use Rattle.e79.specs.Quantities.{Ordered, Portion};
 ghost use Rattle.e79.specs.Doubles.{quotientOf, efficiencyOf, combined, inTurn};
 ghost use Rattle.e79.specs.Accuracy.{Accurate};
@@ -75,8 +75,17 @@ pub fn printed_of_ordered(numerator: u64, denominator: u64) -> Printed
     }
 }
 
-// Ten thousand times n / d to the nearest whole number, a half going up, in two steps of times 100: 10,000 n may not fit.
-fn rounded_of(n: u64, d: u64) -> u64
+// Ten thousand times n / d to the nearest whole number, a half going up, where 20,000 d fits.
+fn rounded_at_once(n: u64, d: u64) -> u64
+    requires { ⌜ Portion n d ⌝ }
+    requires { ⌜ (0 < d) × (d < 2 ^ 48) ⌝ }
+    ensures { λ r. ⌜ r ≡ roundedOf n d ⌝ }
+{
+    (20000 * n + d) / (2 * d)
+}
+
+// The same in two steps of times 100, for any denominator.
+fn rounded_in_steps(n: u64, d: u64) -> u64
     requires { ⌜ Portion n d ⌝ }
     requires { ⌜ 0 < d ⌝ }
     ensures { λ r. ⌜ r ≡ roundedOf n d ⌝ }
@@ -86,6 +95,19 @@ fn rounded_of(n: u64, d: u64) -> u64
     let whole = first / d * 100 + second / d;
     let rest = second % d;
     if rest * 2 < d { whole } else { whole + 1 }
+}
+
+// Ten thousand times n / d to the nearest whole number, a half going up. The sums of a tool are far below 2^48.
+fn rounded_of(n: u64, d: u64) -> u64
+    requires { ⌜ Portion n d ⌝ }
+    requires { ⌜ 0 < d ⌝ }
+    ensures { λ r. ⌜ r ≡ roundedOf n d ⌝ }
+{
+    if d < 0x1_0000_0000_0000 {
+        rounded_at_once(n, d)
+    } else {
+        rounded_in_steps(n, d)
+    }
 }
 
 // One division of two whole numbers, which are exact as doubles.

@@ -1,11 +1,11 @@
--- `e79::rounded_of` meets its contract: the two steps leave the whole part of 10,000 n / d and its rest, and twice the rest says whether a half is reached. Assumes nothing.
+-- `e79::rounded_in_steps` meets its contract: the two steps leave the whole part of 10,000 n / d and its rest, and twice the rest says whether a half is reached. Assumes nothing.
 use borrow.Author.Needs.{needs}
 use Prim.Native.Nat.{ℕ, _*_, _/_, _%_, _≤_, _<_, _^_}
 use native.Mathlib.Nat.{le-of-lt}
 use native.Mathlib.Omega.{arith}
 use Rattle.e79.proofs.Printing.{step, half-not-reached, half-reached}
-use Rattle.e79.proofs.rounded_of.Statement.{statement}
-use Rattle.e79.proofs.rounded_of.Tie as tie
+use Rattle.e79.proofs.rounded_in_steps.Statement.{statement}
+use Rattle.e79.proofs.rounded_in_steps.Tie as tie
 
 -- both steps are of a number up to the denominator, which is below 2 ^ 53
 record Steps (n d : ℕ) : Type 0 where
@@ -59,8 +59,8 @@ returns c = half-not-reached (c .before .args .n) (c .before .args .d) (c .if1 .
 returns-2 : tie.Need-returns-2
 returns-2 c = half-reached (c .before .args .n) (c .before .args .d) (steps (c .before) .second-rest) (c .if1 .left)
 
-pub rounded-of-spec : {M : Type 1} → statement M
-rounded-of-spec =
+pub rounded-in-steps-spec : {M : Type 1} → statement M
+rounded-in-steps-spec =
     tie.close
     (tie.spec
     mul-first
