@@ -5,7 +5,7 @@ use mathlib.Core.Path.{_≡_, refl, sym, _∙_}
 use mathlib.Core.Bool.{Bool, true, false}
 use mathlib.Core.Option.{none, some, IsSome}
 use mathlib.Core.List.{List, [], _∷_, _++_}
-use Prim.Native.Nat.{ℕ, _+_, _-_, _*_, _^_, _≤_, _<_}
+use Prim.Native.Nat.{ℕ, _+_, _-_, _*_, _/_, _%_, _^_, _≤_, _<_}
 use native.Mathlib.Omega.{arith}
 use native.Mathlib.Decide.{ℕ-discrete}
 use lib.Dec.{eqb, lit<}
@@ -17,14 +17,15 @@ use Rattle.records.specs.Fields.{stateFrom}
 use Rattle.records.specs.Log.{stateAt, upTo}
 use Rattle.rules.specs.declared.Verdict.the-variants.{Accepted}
 use Rattle.rules.specs.Grounds.{ground, firstOf, eachOf}
-use Rattle.rules.specs.Time.{codeAt, isState, count, stateTime}
+use Rattle.rules.specs.Time.{stateOf, codeAt, isState, count, stateTime}
 use Rattle.rules.specs.RecordGrounds.{ownTime, firstTime, isOpening, stateGround, openingGround, stateGrounds}
 use Rattle.rules.proofs.FirstGround.{first-none, first-more, first-stop}
 use Rattle.states.specs.Tally.{Tallied}
-use Rattle.states.specs.Held.{nextOf, totalsWith, uptimesWith, Unseen, Open, Stretch, fresh, running, Sums, Module, Modules, Held}
+use Rattle.states.specs.Held.{nextOf, totalsWith, uptimeIn, Unseen, Open, Stretch, fresh, running, Sums, Module, Modules, Held}
 use Rattle.states.proofs.OneMore.{code-from, time-before, own-time, first-new, first-stays, code-other, time-other, own-other, first-other}
 use Rattle.states.proofs.Sound.{Sound}
-use Rattle.states.proofs.Sums.{Runs, grows, sums-as, sums-own, sums-other, total-length, uptime-length}
+use Rattle.states.proofs.Table.{state-low}
+use Rattle.states.proofs.Sums.{Runs, grows, sums-as, sums-own, sums-other, total-length, uptime-sum}
 
 -- a record's module and time by their widths
 pub module-low : (s : List ℕ) (i : ℕ) → stateAt s i .«module» < 64
@@ -35,84 +36,105 @@ pub time-low : (s : List ℕ) (i : ℕ) → stateAt s i .time < 2 ^ 35
 unfolding stateFrom
 time-low s i = field-lt s (80 + 48 * i + 11) 35
 
+-- ---- a module's word
+
+module _ (n s : ℕ) (low : s < 6) where
+  pub word-next : (n * 8 + s) / 8 ≡ n
+  word-next = omega arith
+
+  pub word-state : (n * 8 + s) % 8 ≡ s
+  word-state = omega arith
+
 -- ---- what is known of a module
 
-module _ {rs : List StateRecord} {m n c : ℕ} {o : Bool} where
+module _ {rs : List StateRecord} {m n s : ℕ} {o : Bool} where
   -- the least time that its next record may have, as test 10 reads it
-  pub next-own : Stretch rs m n c o → n ≡ nextOf (ownTime m rs)
-  next-own (fresh s) = rw (s .own) (s .next)
-  next-own (running s) = rw (s .own) (omega (arith, s .next))
+  pub next-own : Stretch rs m n s o → n ≡ nextOf (ownTime m rs)
+  next-own (fresh k) = rw (k .own) (k .next)
+  next-own (running k) = rw (k .own) (omega (arith, k .next))
 
-  opening-of : Stretch rs m n c o → o ≡ isOpening (firstTime m rs)
-  opening-of (fresh s) = rw (s .first) (s .opening)
-  opening-of (running s) = s .opening
+  opening-of : Stretch rs m n s o → o ≡ isOpening (firstTime m rs)
+  opening-of (fresh k) = rw (k .first) (k .opening)
+  opening-of (running k) = k .opening
 
   -- it has no record where the least time is 0, and one where it is not or where it is opened
-  is-unseen : Stretch rs m n c o → n ≡ 0 → Unseen rs m n o
-  is-unseen (fresh s) z = s
-  is-unseen (running s) z = absurd (omega (arith, s .next))
+  is-unseen : Stretch rs m n s o → n ≡ 0 → Unseen rs m n o
+  is-unseen (fresh k) z = k
+  is-unseen (running k) z = absurd (omega (arith, k .next))
 
-  is-open : Stretch rs m n c o → (n ≡ 0 → ⊥) → Open rs m n c o
-  is-open (fresh s) pos = absurd (pos (s .next))
-  is-open (running s) pos = s
+  is-open : Stretch rs m n s o → (n ≡ 0 → ⊥) → Open rs m n s o
+  is-open (fresh k) pos = absurd (pos (k .next))
+  is-open (running k) pos = k
 
-  is-opened : Stretch rs m n c o → o ≡ true → Open rs m n c o
-  is-opened (fresh s) e = let z : _≡_ {A = ℕ} 0 1 = cc (e, s .opening) in absurd (omega arith)
-  is-opened (running s) e = s
+  is-opened : Stretch rs m n s o → o ≡ true → Open rs m n s o
+  is-opened (fresh k) e = let z : _≡_ {A = ℕ} 0 1 = cc (e, k .opening) in absurd (omega arith)
+  is-opened (running k) e = k
 
 -- ---- a record more
 
 module _ (rs : List StateRecord) (r : StateRecord) where
-  module-other : {period x n c : ℕ} {o : Bool} → (r .«module» ≡ x → ⊥) → Module rs period x n c o → Module (rs ++ (r ∷ [])) period x n c o
-  module-other {x = x} {n} {c} {o} ne M = record { early = M .early; low = M .low; stretch = go (M .stretch) }
+  module-other : {period x n s : ℕ} {o : Bool} → (r .«module» ≡ x → ⊥) → Module rs period x n s o → Module (rs ++ (r ∷ [])) period x n s o
+  module-other {x = x} {n} {s} {o} ne M = record { early = M .early; low = M .low; stretch = go (M .stretch) }
     where
-      go : Stretch rs x n c o → Stretch (rs ++ (r ∷ [])) x n c o
-      go (fresh s) = fresh (record {
-        next = s .next;
-        opening = s .opening;
-        own = own-other rs r x ne ∙ s .own;
-        first = first-other rs r x ne ∙ s .first;
-        code = λ t. code-other rs r x ne t ∙ s .code t;
+      go : Stretch rs x n s o → Stretch (rs ++ (r ∷ [])) x n s o
+      go (fresh k) = fresh (record {
+        next = k .next;
+        opening = k .opening;
+        own = own-other rs r x ne ∙ k .own;
+        first = first-other rs r x ne ∙ k .first;
+        code = λ t. code-other rs r x ne t ∙ k .code t;
       })
-      go (running s) = running (record {
-        next = s .next;
-        opening = rw (first-other rs r x ne) (s .opening);
-        own = own-other rs r x ne ∙ s .own;
-        first = rw (first-other rs r x ne) (s .first);
-        code = λ t h. code-other rs r x ne t ∙ s .code t h;
+      go (running k) = running (record {
+        next = k .next;
+        opening = rw (first-other rs r x ne) (k .opening);
+        own = own-other rs r x ne ∙ k .own;
+        first = rw (first-other rs r x ne) (k .first);
+        latest = k .latest;
+        state = k .state;
+        code = λ t h. code-other rs r x ne t ∙ k .code t h;
       })
 
   module _ {period modules : ℕ} (ok : Sound period modules rs r) where
     module-own : (o : Bool) → o ≡ isOpening (firstTime (r .«module») (rs ++ (r ∷ []))) → IsSome (firstTime (r .«module») (rs ++ (r ∷ [])))
-        → Module (rs ++ (r ∷ [])) period (r .«module») (r .time + 1) (r .code) o
+        → Module (rs ++ (r ∷ [])) period (r .«module») (r .time + 1) (stateOf (r .code)) o
     module-own o e f =
         let d : r .time + 1 - 1 ≡ r .time = omega arith in
         record {
           early = omega (arith, ok .inside);
-          low = ok .low;
+          low = state-low (r .code) (ok .low);
           stretch = running (record {
             next = omega arith;
             opening = e;
             own = rw d (own-time rs r);
             first = f;
+            latest = r .code;
+            state = refl;
             code = λ t h. code-from rs r t (omega arith);
           });
         }
 
-    module _ {T U N C : List ℕ} {O : List Bool} (H : Held rs period T U N C O) (h : r .«module» < 64) where
-      -- what is held after the record, by what is known of its own module's counters and of the others'
-      held-more : (T⁺ U⁺ : List ℕ) (O⁺ : List Bool) → length T⁺ ≡ 384 → length U⁺ ≡ 64 → length O⁺ ≡ 64
-          → Module (rs ++ (r ∷ [])) period (r .«module») (r .time + 1) (r .code) (getD O⁺ (r .«module») false)
-          → Sums (rs ++ (r ∷ [])) T⁺ U⁺ (r .«module») (r .time)
+    module _ {T P : List ℕ} {O : List Bool} (H : Held rs period T P O) (h : r .«module» < 64) where
+      -- the word of the record's module after it
+      abbrev word : ℕ
+      word = (r .time + 1) * 8 + stateOf (r .code)
+
+      word-of : (getD (set P (r .«module») word) (r .«module») 0 / 8 ≡ r .time + 1) × (getD (set P (r .«module») word) (r .«module») 0 % 8 ≡ stateOf (r .code))
+      word-of =
+          let low = state-low (r .code) (ok .low) in
+          let a : r .«module» < length P = omega (arith, H .modules .words) in
+          rw (getD-set-same P (r .«module») word 0 a) (word-next (r .time + 1) (stateOf (r .code)) low, word-state (r .time + 1) (stateOf (r .code)) low)
+
+      -- what is held after the record, by what is known of its own module's totals and of the others'
+      held-more : (T⁺ : List ℕ) (O⁺ : List Bool) → length T⁺ ≡ 384 → length O⁺ ≡ 64
+          → Module (rs ++ (r ∷ [])) period (r .«module») (r .time + 1) (stateOf (r .code)) (getD O⁺ (r .«module») false)
+          → Sums (rs ++ (r ∷ [])) T⁺ (r .«module») (r .time)
           → ((x : ℕ) → (r .«module» ≡ x → ⊥) → getD O⁺ x false ≡ getD O x false)
-          → ((x v : ℕ) → (r .«module» ≡ x → ⊥) → Sums rs T U x v → Sums rs T⁺ U⁺ x v)
-          → Held (rs ++ (r ∷ [])) period T⁺ U⁺ (set N (r .«module») (r .time + 1)) (set C (r .«module») (r .code)) O⁺
-      held-more T⁺ U⁺ O⁺ long wide many own sums others-opened others = record {
+          → ((x v : ℕ) → (r .«module» ≡ x → ⊥) → Sums rs T x v → Sums rs T⁺ x v)
+          → Held (rs ++ (r ∷ [])) period T⁺ (set P (r .«module») word) O⁺
+      held-more T⁺ O⁺ long many own sums others-opened others = record {
         totals = long;
-        uptime = wide;
         modules = record {
-          next = length-set N _ _ ∙ H .modules .next;
-          codes = length-set C _ _ ∙ H .modules .codes;
+          words = length-set P _ _ ∙ H .modules .words;
           opened = many;
           each = λ x l. pick x l (ℕ-discrete (r .«module») x);
         };
@@ -120,75 +142,65 @@ module _ (rs : List StateRecord) (r : StateRecord) where
       }
         where
           pick : (x : ℕ) → x < 64 → Dec (r .«module» ≡ x)
-              → Module (rs ++ (r ∷ [])) period x (getD (set N (r .«module») (r .time + 1)) x 0) (getD (set C (r .«module») (r .code)) x 0) (getD O⁺ x false)
-          pick x l (yes e) =
-              let a : r .«module» < length N = omega (arith, H .modules .next) in
-              let b : r .«module» < length C = omega (arith, H .modules .codes) in
-              rw (← e, getD-set-same N _ _ 0 a, getD-set-same C _ _ 0 b) own
+              → Module (rs ++ (r ∷ [])) period x (getD (set P (r .«module») word) x 0 / 8) (getD (set P (r .«module») word) x 0 % 8) (getD O⁺ x false)
+          pick x l (yes e) = rw (← e, word-of .0, word-of .1) own
           pick x l (no ne) =
-              rw (getD-set-other N (r .«module») x _ 0 (λ q. ne (sym q)), getD-set-other C (r .«module») x _ 0 (λ q. ne (sym q)), others-opened x ne)
+              rw (getD-set-other P (r .«module») x word 0 (λ q. ne (sym q)), others-opened x ne)
               (module-other ne (H .modules .each x l))
 
-          run : (x : ℕ) → x < 64 → Dec (r .«module» ≡ x) → Sums (rs ++ (r ∷ [])) T⁺ U⁺ x (getD (set N (r .«module») (r .time + 1)) x 0 - 1)
+          run : (x : ℕ) → x < 64 → Dec (r .«module» ≡ x) → Sums (rs ++ (r ∷ [])) T⁺ x (getD (set P (r .«module») word) x 0 / 8 - 1)
           run x l (yes e) =
-              let a : r .«module» < length N = omega (arith, H .modules .next) in
               let d : r .time + 1 - 1 ≡ r .time = omega arith in
-              rw (← e, getD-set-same N _ _ 0 a, d) sums
+              rw (← e, word-of .0, d) sums
           run x l (no ne) =
-              rw (getD-set-other N (r .«module») x _ 0 (λ q. ne (sym q)))
+              rw (getD-set-other P (r .«module») x word 0 (λ q. ne (sym q)))
               (sums-as (time-other rs r x ne _) (others x _ ne (H .sums x l)))
 
       -- a module's first record: no time of any state has passed
-      pub held-first : getD N (r .«module») 0 ≡ 0
-          → Held (rs ++ (r ∷ [])) period T U (set N (r .«module») (r .time + 1)) (set C (r .«module») (r .code)) (set O (r .«module») (eqb (r .time) 0))
+      pub held-first : getD P (r .«module») 0 / 8 ≡ 0 → Held (rs ++ (r ∷ [])) period T (set P (r .«module») word) (set O (r .«module») (eqb (r .time) 0))
       unfolding isState
       held-first z =
-          let s = is-unseen (H .modules .each (r .«module») h .stretch) z in
+          let k = is-unseen (H .modules .each (r .«module») h .stretch) z in
           let a : r .«module» < length O = omega (arith, H .modules .opened) in
-          let u : getD N (r .«module») 0 - 1 ≡ 0 = omega arith in
-          let first = first-new rs r (s .first) in
-          let idle : Runs rs (r .«module») none 0 (r .time) = record { from = omega arith; same = λ x l b. s .code x } in
-          held-more T U _ (H .totals) (H .uptime) (length-set O _ _ ∙ H .modules .opened)
+          let u : getD P (r .«module») 0 / 8 - 1 ≡ 0 = omega (arith, z) in
+          let first = first-new rs r (k .first) in
+          let idle : Runs rs (r .«module») none 0 (r .time) = record { from = omega arith; same = λ x l b. k .code x } in
+          held-more T _ (H .totals) (length-set O _ _ ∙ H .modules .opened)
           (module-own _ (rw (getD-set-same O (r .«module») (eqb (r .time) 0) false a, first)) (rw first tt))
           (sums-as (λ k. time-before rs r (r .«module») k ∙ grows idle k ∙ omega arith) (rw u at (H .sums (r .«module») h)))
           (λ x ne. getD-set-other O (r .«module») x _ false (λ q. ne (sym q)))
           (λ x v ne s. s)
 
       -- a later record: its module's open stretch ends
-      module _ (pos : getD N (r .«module») 0 ≡ 0 → ⊥) where
-        pub since : getD N (r .«module») 0 - 1 ≤ r .time
+      module _ (pos : getD P (r .«module») 0 / 8 ≡ 0 → ⊥) where
+        pub since : getD P (r .«module») 0 / 8 - 1 ≤ r .time
         since = omega (arith, ok .later, next-own (H .modules .each (r .«module») h .stretch))
 
         pub held-next : Held (rs ++ (r ∷ [])) period
-            (totalsWith T (r .«module») (getD C (r .«module») 0) (r .time - (getD N (r .«module») 0 - 1)))
-            (uptimesWith U (r .«module») (getD C (r .«module») 0) (r .time - (getD N (r .«module») 0 - 1)))
-            (set N (r .«module») (r .time + 1))
-            (set C (r .«module») (r .code))
+            (totalsWith T (r .«module») (getD P (r .«module») 0 % 8) (r .time - (getD P (r .«module») 0 / 8 - 1)))
+            (set P (r .«module») word)
             O
         held-next =
             let low = H .modules .each (r .«module») h .low in
-            let s = is-open (H .modules .each (r .«module») h .stretch) pos in
-            let stays = first-stays rs r (r .«module») (s .first) in
-            let runs : Runs rs (r .«module») (some (getD C (r .«module») 0)) (getD N (r .«module») 0 - 1) (r .time) = record { from = since; same = λ x l b. s .code x l } in
-            held-more _ _ O
-            (total-length T U (H .totals) (H .uptime) _ _ _ h low)
-            (uptime-length T U (H .totals) (H .uptime) _ _ _ h low)
+            let k = is-open (H .modules .each (r .«module») h .stretch) pos in
+            let stays = first-stays rs r (r .«module») (k .first) in
+            let runs : Runs rs (r .«module») (some (k .latest)) (getD P (r .«module») 0 / 8 - 1) (r .time) = record { from = since; same = λ x l b. k .code x l } in
+            held-more _ O
+            (total-length T (H .totals) _ _ _ h low)
             (H .modules .opened)
-            (module-own _ (rw stays (s .opening)) (rw stays (s .first)))
-            (sums-as (time-before rs r (r .«module»)) (sums-own T U (H .totals) (H .uptime) _ _ _ h low refl runs (H .sums (r .«module») h)))
+            (module-own _ (rw stays (k .opening)) (rw stays (k .first)))
+            (sums-as (time-before rs r (r .«module»)) (sums-own T (H .totals) _ _ _ h low (k .state) refl runs (H .sums (r .«module») h)))
             (λ x ne. refl)
-            (λ x v ne s. sums-other T U (H .totals) (H .uptime) _ _ _ h low ne s)
+            (λ x v ne s. sums-other T (H .totals) _ _ _ h low ne s)
 
 -- ---- before the first record
 
-pub held-none : (at : ℕ → StateRecord) (period : ℕ) → Held (upTo at 0) period (replicate 384 0) (replicate 64 0) (replicate 64 0) (replicate 64 0) (replicate 64 false)
+pub held-none : (at : ℕ → StateRecord) (period : ℕ) → Held (upTo at 0) period (replicate 384 0) (replicate 64 0) (replicate 64 false)
 unfolding upTo ownTime firstTime codeAt stateTime count
 held-none at period = record {
   totals = length-replicate {A = ℕ} 384 0;
-  uptime = length-replicate {A = ℕ} 64 0;
   modules = record {
-    next = length-replicate {A = ℕ} 64 0;
-    codes = length-replicate {A = ℕ} 64 0;
+    words = length-replicate {A = ℕ} 64 0;
     opened = length-replicate 64 false;
     each = λ m h. rw (getD-replicate {A = ℕ} 64 m 0 0 h, getD-replicate 64 m false false h) (record {
       early = omega arith;
@@ -196,37 +208,34 @@ held-none at period = record {
       stretch = fresh (record { next = refl; opening = refl; own = refl; first = refl; code = λ t. refl });
     });
   };
-  sums = λ m h. rw (getD-replicate {A = ℕ} 64 m 0 0 h) (record {
-    totals = λ k l. getD-replicate {A = ℕ} 384 (6 * m + k) 0 0 (omega arith);
-    uptime = getD-replicate {A = ℕ} 64 m 0 0 h;
-  });
+  sums = λ m h. rw (getD-replicate {A = ℕ} 64 m 0 0 h) (record { totals = λ k l. getD-replicate {A = ℕ} 384 (6 * m + k) 0 0 (omega arith) });
 }
 
 -- ---- the modules, at the end of the period
 
--- the modules below d are opened, and their last stretches are closed
-pub record Finishing (rs : List StateRecord) (period modules d : ℕ) (T U N C : List ℕ) (O : List Bool) : Type 0 where
+-- the modules below d are opened, their last stretches are closed, and their uptimes are summed
+pub record Finishing (rs : List StateRecord) (period modules d : ℕ) (T U P : List ℕ) (O : List Bool) : Type 0 where
   pub records : eachOf (stateGround period modules) rs ≡ Accepted
   pub openings : firstOf (openingGround rs) d ≡ Accepted
   pub totals : length T ≡ 384
   pub uptime : length U ≡ 64
-  pub modules-held : Modules rs period N C O
-  pub done : (m : ℕ) → m < d → Sums rs T U m period
-  pub rest : (m : ℕ) → d ≤ m → m < 64 → Sums rs T U m (getD N m 0 - 1)
+  pub modules-held : Modules rs period P O
+  pub done : (m : ℕ) → m < d → (Sums rs T m period) × (getD U m 0 ≡ stateTime rs period m 0 + stateTime rs period m 1 + stateTime rs period m 2)
+  pub rest : (m : ℕ) → d ≤ m → m < 64 → Sums rs T m (getD P m 0 / 8 - 1)
 
-module _ {rs : List StateRecord} {period modules : ℕ} {T U N C : List ℕ} {O : List Bool} where
-  pub finish-start : eachOf (stateGround period modules) rs ≡ Accepted → Held rs period T U N C O → Finishing rs period modules 0 T U N C O
-  finish-start a H = record {
+module _ {rs : List StateRecord} {period modules : ℕ} {T U P : List ℕ} {O : List Bool} where
+  pub finish-start : eachOf (stateGround period modules) rs ≡ Accepted → length U ≡ 64 → Held rs period T P O → Finishing rs period modules 0 T U P O
+  finish-start a wide H = record {
     records = a;
     openings = first-none (openingGround rs);
     totals = H .totals;
-    uptime = H .uptime;
+    uptime = wide;
     modules-held = H .modules;
     done = λ m h. absurd (omega arith);
     rest = λ m l h. H .sums m h;
   }
 
-  module _ {d : ℕ} (F : Finishing rs period modules d T U N C O) (h : d < 64) where
+  module _ {d : ℕ} (F : Finishing rs period modules d T U P O) (h : d < 64) where
     opening-is : getD O d false ≡ isOpening (firstTime d rs)
     opening-is = opening-of (F .modules-held .each d h .stretch)
 
@@ -238,37 +247,48 @@ module _ {rs : List StateRecord} {period modules : ℕ} {T U N C : List ℕ} {O 
         (sym (first-stop (openingGround rs) modules d _ l (F .openings) (rw (← opening-is, e) refl)))
 
     module _ (e : getD O d false ≡ true) where
-      stretch-of : Open rs d (getD N d 0) (getD C d 0) (getD O d false)
+      stretch-of : Open rs d (getD P d 0 / 8) (getD P d 0 % 8) (getD O d false)
       stretch-of = is-opened (F .modules-held .each d h .stretch) e
 
-      pub opened-since : (0 < getD N d 0) × (getD N d 0 ≤ period)
+      pub opened-since : (0 < getD P d 0 / 8) × (getD P d 0 / 8 ≤ period)
       opened-since = (stretch-of .next, F .modules-held .each d h .early)
 
-      pub finish-more : Finishing rs period modules (d + 1)
-          (totalsWith T d (getD C d 0) (period - (getD N d 0 - 1))) (uptimesWith U d (getD C d 0) (period - (getD N d 0 - 1))) N C O
+      abbrev closed : List ℕ
+      closed = totalsWith T d (getD P d 0 % 8) (period - (getD P d 0 / 8 - 1))
+
+      pub closed-sums : Sums rs closed d period
+      closed-sums =
+          sums-own T (F .totals) _ _ _ h (F .modules-held .each d h .low) (stretch-of .state) refl
+          (record { from = omega (arith, opened-since .1); same = λ x l b. stretch-of .code x l })
+          (F .rest d (omega arith) h)
+
+      pub finish-more : Finishing rs period modules (d + 1) closed (set U d (uptimeIn closed d)) P O
       unfolding openingGround
       finish-more =
           let low = F .modules-held .each d h .low in
-          let runs : Runs rs d (some (getD C d 0)) (getD N d 0 - 1) period = record { from = omega (arith, opened-since .1); same = λ x l b. stretch-of .code x l } in
           record {
             records = F .records;
             openings = first-more (openingGround rs) d (F .openings) (rw (← opening-is, e) refl);
-            totals = total-length T U (F .totals) (F .uptime) _ _ _ h low;
-            uptime = uptime-length T U (F .totals) (F .uptime) _ _ _ h low;
+            totals = total-length T (F .totals) _ _ _ h low;
+            uptime = length-set U _ _ ∙ F .uptime;
             modules-held = F .modules-held;
-            done = λ m l. pick m l low runs (ℕ-discrete d m);
-            rest = λ m l b. sums-other T U (F .totals) (F .uptime) _ _ _ h low (λ z. absurd (omega arith)) (F .rest m (omega arith) b);
+            done = λ m l. pick m l low (ℕ-discrete d m);
+            rest = λ m l b. sums-other T (F .totals) _ _ _ h low (λ z. absurd (omega arith)) (F .rest m (omega arith) b);
           }
         where
-          pick : (m : ℕ) → m < d + 1 → getD C d 0 < 24 → Runs rs d (some (getD C d 0)) (getD N d 0 - 1) period → Dec (d ≡ m)
-              → Sums rs (totalsWith T d (getD C d 0) (period - (getD N d 0 - 1))) (uptimesWith U d (getD C d 0) (period - (getD N d 0 - 1))) m period
-          pick m l low runs (yes q) = rw (← q) (sums-own T U (F .totals) (F .uptime) _ _ _ h low refl runs (F .rest d (omega arith) h))
-          pick m l low runs (no ne) = sums-other T U (F .totals) (F .uptime) _ _ _ h low ne (F .done m (omega (arith, ne)))
+          pick : (m : ℕ) → m < d + 1 → getD P d 0 % 8 < 6 → Dec (d ≡ m)
+              → (Sums rs closed m period) × (getD (set U d (uptimeIn closed d)) m 0 ≡ stateTime rs period m 0 + stateTime rs period m 1 + stateTime rs period m 2)
+          pick m l low (yes q) =
+              let a : d < length U = omega (arith, F .uptime) in
+              rw (← q) (closed-sums, getD-set-same U d _ 0 a ∙ uptime-sum closed-sums)
+          pick m l low (no ne) =
+              let old = F .done m (omega (arith, ne)) in
+              (sums-other T (F .totals) _ _ _ h low ne (old .0), getD-set-other U d m _ 0 (λ z. ne (sym z)) ∙ old .1)
 
-  pub finish-all : Finishing rs period modules modules T U N C O → Tallied rs period modules Accepted T U
+  pub finish-all : Finishing rs period modules modules T U P O → Tallied rs period modules Accepted T U
   unfolding stateGrounds
   finish-all F = record {
     answer = rw (F .records, F .openings);
-    totals = λ _ m k h l. F .done m h .totals k l;
-    uptime = λ _ m h. F .done m h .uptime;
+    totals = λ _ m k h l. F .done m h .0 .totals k l;
+    uptime = λ _ m h. F .done m h .1;
   }

@@ -1,16 +1,16 @@
 // The pass over the state records of a log: it tests each record and sums the modules' state times on the way.
 ghost use mathlib.Core.Path.{_≡_};
-ghost use mathlib.Core.Bool.{true, cond};
+ghost use mathlib.Core.Bool.{true};
 ghost use mathlib.Core.List.{List};
-ghost use Prim.Native.Nat.{_<_, _≤_};
-ghost use lib.ListN.{replicate};
+ghost use Prim.Native.Nat.{_+_, _*_, _^_, _<_, _≤_};
+ghost use lib.ListN.{length, getD, replicate};
 ghost use Rattle.records.specs.declared.StateRecord.{StateRecord};
 ghost use Rattle.records.specs.Log.{stateAt, upTo};
 ghost use Rattle.rules.specs.Grounds.{ground};
 ghost use Rattle.rules.specs.Time.{states, stateOf};
 ghost use Rattle.rules.specs.RecordGrounds.{lastTime, ownTime, stateGround};
-ghost use Rattle.states.specs.Tally.{isUptime, Tallied};
-ghost use Rattle.states.specs.Held.{fromOf, nextOf, totalsWith, uptimesWith, Room, Held, Stepped, Scanned};
+ghost use Rattle.states.specs.Tally.{Tallied};
+ghost use Rattle.states.specs.Held.{fromOf, nextOf, totalsWith, uptimeIn, Held, Stepped, Scanned};
 use records::Header;
 use records::StateRecord;
 use rules::Refusal;
@@ -65,39 +65,21 @@ fn state_of(table: &[u8; 24], code: usize) -> usize
     table[code] as usize
 }
 
-// Whether time in the sub-state of a code is uptime: productive, standby or engineering.
-fn is_uptime(table: &[u8; 24], code: usize) -> bool
-    requires { ⌜ (now table ≡ states) × (code < 24) ⌝ }
-    ensures { λ r. ⌜ r ≡ isUptime code ⌝ }
+// Adds a stretch of `length` ms in a state to module m's total of it.
+fn add_stretch(totals: &mut [u64; 384], m: usize, state: usize, length: u64)
+    requires { ⌜ (m < 64) × (state < 6) × (getD (now totals) (6 * m + state) 0 + length < 2 ^ 64) ⌝ }
+    ensures { λ _. ⌜ now (totals .exit) ≡ totalsWith (now (totals .entry)) m state length ⌝ }
 {
-    state_of(table, code) < 3
-}
-
-// How much of a stretch in the sub-state of a code is uptime: all or nothing. A value and not a branch, for codes come in any sequence.
-fn uptime_in(table: &[u8; 24], code: usize, length: u64) -> u64
-    requires { ⌜ (now table ≡ states) × (code < 24) ⌝ }
-    ensures { λ r. ⌜ r ≡ cond (isUptime code) length 0 ⌝ }
-{
-    if is_uptime(table, code) { length } else { 0 }
-}
-
-// Adds a stretch of `length` ms in the sub-state of a code to module m's total of its state, and to m's uptime where the code is an uptime code.
-fn add_stretch(
-    table: &[u8; 24],
-    totals: &mut [u64; 384],
-    uptime: &mut [u64; 64],
-    m: usize,
-    code: usize,
-    length: u64,
-)
-    requires { ⌜ (now table ≡ states) × (code < 24) ⌝ }
-    requires { ⌜ Room (now totals) (now uptime) m length ⌝ }
-    ensures { λ _. ⌜ now (totals .exit) ≡ totalsWith (now (totals .entry)) m code length ⌝ }
-    ensures { λ _. ⌜ now (uptime .exit) ≡ uptimesWith (now (uptime .entry)) m code length ⌝ }
-{
-    let at = 6 * m + state_of(table, code);
+    let at = 6 * m + state;
     totals[at] += length;
-    uptime[m] += uptime_in(table, code, length);
+}
+
+// Module m's uptime: productive, standby and engineering.
+fn uptime_of(totals: &[u64; 384], m: usize) -> u64
+    requires { ⌜ (m < 64) × (uptimeIn (now totals) m < 2 ^ 64) ⌝ }
+    ensures { λ r. ⌜ r ≡ uptimeIn (now (totals .entry)) m ⌝ }
+{
+    totals[6 * m] + totals[6 * m + 1] + totals[6 * m + 2]
 }
 
 // State record i is refused.
@@ -141,7 +123,8 @@ fn test(r: StateRecord, i: usize, h: Header, from: u64, own: u64) -> Verdict
     Verdict::Accepted
 }
 
-// Tests record i. Where it passes, its module's open stretch ends and the next begins.
+// Tests record i. Where it passes, its module's open stretch ends and the next begins. Of each module `latest` has, in one word, eight times the least time
+// that its next record may have, which is 0 where it has no record yet, and the state that it is in since its latest.
 fn tally_record(
     table: &[u8; 24],
     log: &[u8],
@@ -149,20 +132,20 @@ fn tally_record(
     i: usize,
     from: &mut u64,
     totals: &mut [u64; 384],
-    uptime: &mut [u64; 64],
-    next: &mut [u64; 64],
-    codes: &mut [usize; 64],
+    latest: &mut [u64; 64],
     opened: &mut [bool; 64],
 ) -> Verdict
     requires { ⌜ now table ≡ states ⌝ }
+    requires { ⌜ 10 + 6 * i + 6 ≤ length (now log) ⌝ }
     requires { ⌜ now from ≡ fromOf (lastTime (upTo (stateAt (now log)) i)) ⌝ }
-    requires { ⌜ Held (upTo (stateAt (now log)) i) (h .period) (now totals) (now uptime) (now next) (now codes) (now opened) ⌝ }
-    ensures { λ r. ⌜ Stepped (stateAt (now (log .entry))) (h .period) (h .modules) i r (now (from .exit)) (now (totals .exit)) (now (uptime .exit)) (now (next .exit)) (now (codes .exit)) (now (opened .exit)) ⌝ }
+    requires { ⌜ Held (upTo (stateAt (now log)) i) (h .period) (now totals) (now latest) (now opened) ⌝ }
+    ensures { λ r. ⌜ Stepped (stateAt (now (log .entry))) (h .period) (h .modules) i r (now (from .exit)) (now (totals .exit)) (now (latest .exit)) (now (opened .exit)) ⌝ }
 {
-    let r = records::state_record(log, i);
+    let r = records::state_within(log, i);
     let m = r.module;
     let t = r.time;
-    let own = next[m];
+    let word = latest[m];
+    let own = word / 8;
     let v = test(r, i, h, *from, own);
     if let Verdict::Refused(f) = v {
         return Verdict::Refused(f);
@@ -170,11 +153,9 @@ fn tally_record(
     if own == 0 {
         opened[m] = t == 0;
     } else {
-        let code = codes[m];
-        add_stretch(table, totals, uptime, m, code, t - (own - 1));
+        add_stretch(totals, m, (word % 8) as usize, t - (own - 1));
     }
-    next[m] = t + 1;
-    codes[m] = r.code;
+    latest[m] = (t + 1) * 8 + state_of(table, r.code) as u64;
     *from = t;
     Verdict::Accepted
 }
@@ -185,30 +166,18 @@ fn tally_records(
     log: &[u8],
     h: Header,
     totals: &mut [u64; 384],
-    uptime: &mut [u64; 64],
-    next: &mut [u64; 64],
-    codes: &mut [usize; 64],
+    latest: &mut [u64; 64],
     opened: &mut [bool; 64],
 ) -> Verdict
     requires { ⌜ now table ≡ states ⌝ }
-    requires { ⌜ Held (upTo (stateAt (now log)) 0) (h .period) (now totals) (now uptime) (now next) (now codes) (now opened) ⌝ }
-    ensures { λ r. ⌜ Scanned (stateAt (now (log .entry))) (h .period) (h .modules) (h .states) r (now (totals .exit)) (now (uptime .exit)) (now (next .exit)) (now (codes .exit)) (now (opened .exit)) ⌝ }
+    requires { ⌜ 10 + 6 * h .states ≤ length (now log) ⌝ }
+    requires { ⌜ Held (upTo (stateAt (now log)) 0) (h .period) (now totals) (now latest) (now opened) ⌝ }
+    ensures { λ r. ⌜ Scanned (stateAt (now (log .entry))) (h .period) (h .modules) (h .states) r (now (totals .exit)) (now (latest .exit)) (now (opened .exit)) ⌝ }
 {
     let states = h.states;
     let mut from = 0;
     for i in 0..states {
-        let v = tally_record(
-            table,
-            log,
-            h,
-            i,
-            &mut from,
-            totals,
-            uptime,
-            next,
-            codes,
-            opened,
-        );
+        let v = tally_record(table, log, h, i, &mut from, totals, latest, opened);
         if let Verdict::Refused(f) = v {
             return Verdict::Refused(f);
         }
@@ -217,31 +186,21 @@ fn tally_records(
 }
 
 // Tests the state records one by one and sums the modules' state times on the way, in one pass. Then the modules, the lowest first: each must be opened, and its last stretch ends with the period.
-// No buyer's call: the caller has tested the header, and lends counters that are zero.
+// No buyer's call: the caller has tested the header and the length, and lends counters that are zero.
 pub fn tally_states(
     log: &[u8],
     h: Header,
     totals: &mut [u64; 384],
     uptime: &mut [u64; 64],
 ) -> Verdict
-    requires { ⌜ h .modules ≤ 64 ⌝ }
+    requires { ⌜ (h .modules ≤ 64) × (10 + 6 * h .states ≤ length (now log)) ⌝ }
     requires { ⌜ (now totals ≡ replicate 384 0) × (now uptime ≡ replicate 64 0) ⌝ }
     ensures { λ r. ⌜ Tallied (upTo (stateAt (now (log .entry))) (h .states)) (h .period) (h .modules) r (now (totals .exit)) (now (uptime .exit)) ⌝ }
 {
     let table = STATES;
-    let mut next = [0u64; 64];
-    let mut codes = [0usize; 64];
+    let mut latest = [0u64; 64];
     let mut opened = [false; 64];
-    let v = tally_records(
-        &table,
-        log,
-        h,
-        totals,
-        uptime,
-        &mut next,
-        &mut codes,
-        &mut opened,
-    );
+    let v = tally_records(&table, log, h, totals, &mut latest, &mut opened);
     if let Verdict::Refused(f) = v {
         return Verdict::Refused(f);
     }
@@ -254,14 +213,9 @@ pub fn tally_states(
                 place: m,
             });
         }
-        add_stretch(
-            &table,
-            totals,
-            uptime,
-            m,
-            codes[m],
-            h.period - (next[m] - 1),
-        );
+        let word = latest[m];
+        add_stretch(totals, m, (word % 8) as usize, h.period - (word / 8 - 1));
+        uptime[m] = uptime_of(totals, m);
     }
     Verdict::Accepted
 }

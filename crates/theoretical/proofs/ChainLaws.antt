@@ -14,7 +14,13 @@ use Rattle.records.specs.Log.{upTo}
 use Rattle.rules.specs.Theoretical.{later, consider, inForce}
 use Rattle.rules.specs.RecordGrounds.{isAmong}
 use Rattle.rules.proofs.InForce.{Force, Answers, force-more, other-recipe, not-begun, counted, in-force}
-use Rattle.theoretical.specs.Chains.{lastOf, laterOf, Rising}
+use Rattle.theoretical.specs.Chains.{lastOf, Rising}
+
+-- of two standards found, the one with the later start, and the first where they are equal
+abbrev pub laterOf : Option Standard → Option Standard → Option Standard
+laterOf none b = b
+laterOf (some a) none = some a
+laterOf (some a) (some b) = cond (leb (b .start) (a .start)) (some a) (some b)
 
 module _ (at : ℕ → Standard) (recipe : ℕ) where
   -- ---- the last of the recipe
@@ -137,6 +143,19 @@ module _ (at : ℕ → Standard) (s : Standard) where
         | yes o ↦ among-more n ∙ rw (eq-eqb (s .recipe) (at n .recipe) (sym o), ne-eqb (s .start) (at n .start) (λ e. h n (omega arith) o (sym e))) (among-none n (λ j l. h j (omega arith)))
         | no ne ↦ among-other n ne ∙ among-none n (λ j l. h j (omega arith))
       ]
+
+  -- and where it is not among them, none has
+  pub among-not : (n : ℕ) → isAmong s (upTo at n) ≡ false → (j : ℕ) → j < n → at j .recipe ≡ s .recipe → at j .start ≡ s .start → ⊥
+  among-not zero h j l o e = omega arith
+  among-not (suc n) h j l o e =
+      elim (ℕ-discrete j n) [
+        | yes q ↦ let t = among-here n (rw q at o) (rw q at e) in let z : _≡_ {A = ℕ} 0 1 = cc in omega arith
+        | no q ↦ among-not n (right-of (eqb (s .recipe) (at n .recipe) && eqb (s .start) (at n .start)) (isAmong s (upTo at n)) (sym (among-more n) ∙ h)) j (omega (arith, q)) o e
+      ]
+    where
+      right-of : (a b : Bool) → a || b ≡ false → b ≡ false
+      right-of true b q = let z : _≡_ {A = ℕ} 0 1 = cc in absurd (omega arith)
+      right-of false b q = q
 
 -- ---- a walk along a chain
 

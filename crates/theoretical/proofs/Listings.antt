@@ -4,46 +4,92 @@ use mathlib.Core.Path.{_≡_, refl, sym, ap, _∙_}
 use mathlib.Core.Bool.{Bool, true, false}
 use mathlib.Core.Option.{Option, none, some}
 use mathlib.Core.List.{List}
-use Prim.Native.Nat.{ℕ, zero, suc, pred, _+_, _≤_, _<_}
+use Prim.Native.Nat.{ℕ, zero, suc, pred, _+_, _*_, _%_, _^_, _≤_, _<_}
 use native.Mathlib.Numerals.{add-one}
 use native.Mathlib.Decide.{ℕ-discrete, decLt}
 use native.Mathlib.Omega.{arith}
 use lib.ListN.{length, getD, set, replicate, length-set, length-replicate, getD-replicate}
 use lib.Seq.{getD-set-same, getD-set-other}
-use borrow.Author.Tests.{le-leb, lt-leb, eq-eqb, ne-eqb}
+use lib.Dec.{leb, eqb}
+use borrow.Author.Tests.{le-leb, lt-leb, eq-eqb, ne-eqb, eqb-false}
 use Rattle.records.specs.declared.Standard.{Standard}
-use Rattle.records.specs.Log.{upTo}
+use Rattle.records.specs.declared.Header.{Header}
+use Rattle.records.specs.Log.{upTo, standardAt}
+use Rattle.records.proofs.Widths.{standard-fits}
 use Rattle.rules.specs.declared.Refusal.{Refusal}
 use Rattle.rules.specs.declared.Verdict.{Verdict}
 use Rattle.rules.specs.declared.Verdict.the-variants.{Accepted, Refused}
-use Rattle.rules.specs.Grounds.{firstOf}
-use Rattle.rules.specs.Theoretical.{inForce}
+use Rattle.rules.specs.Grounds.{ground, firstOf}
+use Rattle.rules.specs.Theoretical.{inForce, timeOf}
 use Rattle.rules.specs.RecordGrounds.{isAmong, standardGround, standardGrounds}
-use Rattle.rules.proofs.FirstGround.{refused-not, first-none, first-more, first-stop, turn-range}
+use Rattle.rules.proofs.FirstGround.{refused-not, then-left, then-right, not-met, first-none, first-more, first-stop, first-all, turn-range}
 use Rattle.rules.proofs.InForce.{Answers, in-force}
 use Rattle.theoretical.specs.declared.Listed.{Listed}
-use Rattle.theoretical.specs.declared.Lookup.{Lookup}
-use Rattle.theoretical.specs.declared.Lookup.the-variants.{Found, Nothing}
-use Rattle.theoretical.specs.Chains.{lastOf, linked, Rising, Leads, lookupOf}
+use Rattle.theoretical.specs.Chains.{lastOf, Rising, Proper, entryOf, entryIn}
 use Rattle.theoretical.specs.Listing.{Listing, Tested, Added, AllListed}
-use Rattle.theoretical.proofs.ChainLaws.{last-own, last-other, last-le, last-is, last-none, among-none}
+use Rattle.theoretical.proofs.ChainLaws.{last-own, last-other, last-le, last-is, last-none, among-none, among-not}
 
 -- ---- what is looked up
 
--- the standard that is put together from the arrays is the one that the link leads to
-pub looked-up : (at : ℕ → Standard) (n : ℕ) (S T B L : List ℕ) → Listing at n S T B L → (recipe time link : ℕ) → Leads at n recipe time link → 0 < link
-    → Found (record { recipe = recipe; start = getD S (pred link) 0; theoretical = getD T (pred link) 0 }) ≡ lookupOf (inForce (upTo at n) recipe time)
-looked-up at n S T B L listing recipe time zero leads pos = absurd (omega arith)
-looked-up at n S T B L listing recipe time (suc i) leads pos =
-    let own : at i .recipe ≡ recipe = recipe-of (inForce (upTo at n) recipe time) (leads .answer) (in-force at recipe time n) in
-    rw (leads .answer, listing .chained .starts i (leads .within), listing .times i (leads .within)) (ap Found (λ j. record { recipe = sym own j; start = at i .start; theoretical = at i .theoretical }))
-  where
-    recipe-of : (o : Option Standard) → o ≡ some (at i) → Answers at n recipe time o → at i .recipe ≡ recipe
-    recipe-of none e a = let z : _≡_ {A = ℕ} 0 1 = cc in absurd (omega arith)
-    recipe-of (some s) e f = let q : s ≡ at i = cc in rw q at (f .own)
+-- a time of a log's standard by its width
+pub time-low : (s : List ℕ) (h : Header) (i : ℕ) → standardAt s h i .theoretical < 2 ^ 27
+time-low s h i = standard-fits s (80 + 48 * h .states + 72 * i) .1 .1 .0
 
-pub looked-none : (at : ℕ → Standard) (n recipe time link : ℕ) → Leads at n recipe time link → link ≡ 0 → Nothing ≡ lookupOf (inForce (upTo at n) recipe time)
-looked-none at n recipe time link leads e = sym (ap lookupOf (leads .answer ∙ ap (linked at) e))
+pub recipe-low : (s : List ℕ) (h : Header) (i : ℕ) → standardAt s h i .recipe < 1024
+recipe-low s h i = standard-fits s (80 + 48 * h .states + 72 * i) .0
+
+pub start-low : (s : List ℕ) (h : Header) (i : ℕ) → standardAt s h i .start < 2 ^ 35
+start-low s h i = standard-fits s (80 + 48 * h .states + 72 * i) .1 .0
+
+-- the time in the entry of the standard in force
+pub time-of : (at : ℕ → Standard) (n recipe time : ℕ) → Proper at n → entryIn (inForce (upTo at n) recipe time) % 2 ^ 27 ≡ timeOf (inForce (upTo at n) recipe time)
+time-of at n recipe time fine = go (inForce (upTo at n) recipe time) (in-force at recipe time n)
+  where
+    go : (o : Option Standard) → Answers at n recipe time o → entryIn o % 2 ^ 27 ≡ timeOf o
+    go none a = omega arith
+    go (some s) f =
+        let short : s .theoretical < 2 ^ 27 = rw (f .same) (fine .timed (f .index) (f .listed) .1) in
+        omega arith
+
+-- it fits its field
+pub time-short : (at : ℕ → Standard) (n recipe time : ℕ) → Proper at n → timeOf (inForce (upTo at n) recipe time) < 2 ^ 27
+time-short at n recipe time fine = go (inForce (upTo at n) recipe time) (in-force at recipe time n)
+  where
+    go : (o : Option Standard) → Answers at n recipe time o → timeOf o < 2 ^ 27
+    go none a = omega arith
+    go (some s) f = rw (f .same) (fine .timed (f .index) (f .listed) .1)
+
+-- there is none where it is 0
+pub time-none : (at : ℕ → Standard) (n recipe time : ℕ) → Proper at n → timeOf (inForce (upTo at n) recipe time) ≡ 0 → inForce (upTo at n) recipe time ≡ none
+time-none at n recipe time fine e = go (inForce (upTo at n) recipe time) (in-force at recipe time n) e
+  where
+    go : (o : Option Standard) → Answers at n recipe time o → timeOf o ≡ 0 → o ≡ none
+    go none a z = refl
+    go (some s) f z =
+        let pos : 0 < s .theoretical = rw (f .same) (fine .timed (f .index) (f .listed) .0) in
+        absurd (omega arith)
+
+-- a standard that passes has a time, and its recipe and start stood nowhere before
+pub passed-time : (period : ℕ) (es : List Standard) (i : ℕ) (s : Standard) → standardGround period es i s ≡ Accepted → s .theoretical ≡ 0 → ⊥
+unfolding standardGround
+passed-time period es i s a =
+    eqb-false (s .theoretical) 0 (not-met 12 2 i (eqb (s .theoretical) 0) (then-left (ground 12 2 i (eqb (s .theoretical) 0)) (ground 13 2 i (isAmong s es)) (then-right (ground 9 2 i (leb period (s .start))) _ a)))
+
+passed-apart : (period : ℕ) (es : List Standard) (i : ℕ) (s : Standard) → standardGround period es i s ≡ Accepted → isAmong s es ≡ false
+unfolding standardGround
+passed-apart period es i s a =
+    not-met 13 2 i (isAmong s es) (then-right (ground 12 2 i (eqb (s .theoretical) 0)) _ (then-right (ground 9 2 i (leb period (s .start))) _ a))
+
+-- standards that pass their tests
+pub proper-accepted : (period : ℕ) (at : ℕ → Standard) (n : ℕ) → ((i : ℕ) → at i .theoretical < 2 ^ 27) → standardGrounds period (upTo at n) ≡ Accepted → Proper at n
+unfolding standardGrounds
+proper-accepted period at n short a =
+    let each : (i : ℕ) → i < n → standardGround period (upTo at i) i (at i) ≡ Accepted
+    = first-all (λ i. standardGround period (upTo at i) i (at i)) n (sym (turn-range (standardGround period) at n) ∙ a) in
+    record {
+      timed = λ i h. (omega (arith, passed-time period (upTo at i) i (at i) (each i h)), short i);
+      apart = λ i j l h o e. among-not at (at j) j (passed-apart period (upTo at j) j (at j) (each j h)) i l o e;
+    }
 
 -- ---- one standard tested
 
@@ -99,7 +145,7 @@ module _ (period : ℕ) (at : ℕ → Standard) (i : ℕ) (s : Standard) (es : s
 
 -- ---- one standard listed
 
-module _ (at : ℕ → Standard) (i : ℕ) (S T B L : List ℕ) (listing : Listing at i S T B L) (small : i < 512) (low : at i .recipe < 1024) where
+module _ (at : ℕ → Standard) (i : ℕ) (E B L : List ℕ) (listing : Listing at i E B L) (small : i < 512) (low : at i .recipe < 1024) where
   -- an array with what belongs to i at i
   kept : (X : List ℕ) (f : ℕ → ℕ) → length X ≡ 512 → ((j : ℕ) → j < i → getD X j 0 ≡ f j) → (j : ℕ) → j < i + 1 → getD (set X i (f i)) j 0 ≡ f j
   kept X f len h j l =
@@ -112,33 +158,31 @@ module _ (at : ℕ → Standard) (i : ℕ) (S T B L : List ℕ) (listing : Listi
   lasts-more recipe h =
       rw (add-one i)
       (elim (ℕ-discrete (at i .recipe) recipe) [
-        | yes q ↦ rw (last-own at recipe i q, ← q) (getD-set-same L (at i .recipe) (suc i) 0 (omega (arith, listing .sized .3)))
+        | yes q ↦ rw (last-own at recipe i q, ← q) (getD-set-same L (at i .recipe) (suc i) 0 (omega (arith, listing .sized .2)))
         | no q ↦ rw (last-other at recipe i q) (getD-set-other L (at i .recipe) recipe (suc i) 0 (λ e. q (sym e)) ∙ listing .lasts recipe h)
       ])
 
-  pub listed-more : Listing at (i + 1) (set S i (at i .start)) (set T i (at i .theoretical)) (set B i (getD L (at i .recipe) 0)) (set L (at i .recipe) (i + 1))
+  pub listed-more : Listing at (i + 1) (set E i (entryOf (at i))) (set B i (getD L (at i .recipe) 0)) (set L (at i .recipe) (i + 1))
   listed-more =
       record {
-        sized = (length-set S _ _ ∙ listing .sized .0, length-set T _ _ ∙ listing .sized .1, length-set B _ _ ∙ listing .sized .2, length-set L _ _ ∙ listing .sized .3);
+        sized = (length-set E _ _ ∙ listing .sized .0, length-set B _ _ ∙ listing .sized .1, length-set L _ _ ∙ listing .sized .2);
         chained =
             record {
               few = omega arith;
-              starts = kept S (λ j. at j .start) (listing .sized .0) (listing .chained .starts);
-              links = rw (listing .lasts (at i .recipe) low) (kept B (λ j. lastOf at (at j .recipe) j) (listing .sized .2) (listing .chained .links));
+              entries = kept E (λ j. entryOf (at j)) (listing .sized .0) (listing .chained .entries);
+              links = rw (listing .lasts (at i .recipe) low) (kept B (λ j. lastOf at (at j .recipe) j) (listing .sized .1) (listing .chained .links));
             };
-        times = kept T (λ j. at j .theoretical) (listing .sized .1) (listing .times);
         lasts = lasts-more;
       }
 
 -- empty arrays hold no standard
-pub listing-none : (at : ℕ → Standard) (S T B L : List ℕ) → S ≡ replicate 512 0 → T ≡ replicate 512 0 → B ≡ replicate 512 0 → L ≡ replicate 1024 0 → Listing at 0 S T B L
+pub listing-none : (at : ℕ → Standard) (E B L : List ℕ) → E ≡ replicate 512 0 → B ≡ replicate 512 0 → L ≡ replicate 1024 0 → Listing at 0 E B L
 unfolding lastOf
-listing-none at S T B L es et eb el =
-    rw (es, et, eb, el)
+listing-none at E B L ee eb el =
+    rw (ee, eb, el)
     (record {
-      sized = (length-replicate {A = ℕ} 512 0, length-replicate {A = ℕ} 512 0, length-replicate {A = ℕ} 512 0, length-replicate {A = ℕ} 1024 0);
-      chained = record { few = omega arith; starts = λ i h. absurd (omega arith); links = λ i h. absurd (omega arith) };
-      times = λ i h. absurd (omega arith);
+      sized = (length-replicate {A = ℕ} 512 0, length-replicate {A = ℕ} 512 0, length-replicate {A = ℕ} 1024 0);
+      chained = record { few = omega arith; entries = λ i h. absurd (omega arith); links = λ i h. absurd (omega arith) };
       lasts = λ recipe h. getD-replicate {A = ℕ} 1024 recipe 0 0 h;
     })
 
@@ -148,20 +192,20 @@ abbrev tests : ℕ → (ℕ → Standard) → ℕ → Verdict
 tests period at i = standardGround period (upTo at i) i (at i)
 
 -- the first i were tested, passed and listed
-pub record ListedTo (period : ℕ) (at : ℕ → Standard) (n i : ℕ) (b : Bool) (S T B L : List ℕ) : Type 0 where
+pub record ListedTo (period : ℕ) (at : ℕ → Standard) (n i : ℕ) (b : Bool) (E B L : List ℕ) : Type 0 where
   pub within : i ≤ n
   pub fine : firstOf (tests period at) i ≡ Accepted
   pub rising : b ≡ true → Rising at i
-  pub listing : Listing at i S T B L
+  pub listing : Listing at i E B L
 
 module _ (period : ℕ) (at : ℕ → Standard) (n : ℕ) where
-  pub listed-none : (S T B L : List ℕ) → Listing at 0 S T B L → ListedTo period at n 0 true S T B L
-  listed-none S T B L l =
+  pub listed-none : (E B L : List ℕ) → Listing at 0 E B L → ListedTo period at n 0 true E B L
+  listed-none E B L l =
       record { within = omega arith; fine = first-none (tests period at); rising = λ e. record { rises = λ i j h k. absurd (omega arith) }; listing = l }
 
-  pub listed-step : (i : ℕ) (b : Bool) (S T B L : List ℕ) → i < n → ListedTo period at n i b S T B L → (r : Listed) (S′ T′ B′ L′ : List ℕ) → Added period at i r S′ T′ B′ L′
-      → r .verdict ≡ Accepted → ListedTo period at n (i + 1) (r .rising) S′ T′ B′ L′
-  listed-step i b S T B L h l r S′ T′ B′ L′ a e =
+  pub listed-step : (i : ℕ) (b : Bool) (E B L : List ℕ) → i < n → ListedTo period at n i b E B L → (r : Listed) (E′ B′ L′ : List ℕ) → Added period at i r E′ B′ L′
+      → r .verdict ≡ Accepted → ListedTo period at n (i + 1) (r .rising) E′ B′ L′
+  listed-step i b E B L h l r E′ B′ L′ a e =
       record {
         within = omega arith;
         fine = first-more (tests period at) i (l .fine) (sym (a .tested .answer) ∙ e);
@@ -169,19 +213,19 @@ module _ (period : ℕ) (at : ℕ → Standard) (n : ℕ) where
         listing = a .listing e;
       }
 
-  pub listed-stop : (i : ℕ) (b : Bool) (S T B L : List ℕ) → i < n → ListedTo period at n i b S T B L → (r : Listed) (S′ T′ B′ L′ : List ℕ) → Added period at i r S′ T′ B′ L′
-      → (x : Refusal) → r .verdict ≡ Refused x → AllListed period at n r S′ T′ B′ L′
+  pub listed-stop : (i : ℕ) (b : Bool) (E B L : List ℕ) → i < n → ListedTo period at n i b E B L → (r : Listed) (E′ B′ L′ : List ℕ) → Added period at i r E′ B′ L′
+      → (x : Refusal) → r .verdict ≡ Refused x → AllListed period at n r E′ B′ L′
   unfolding standardGrounds
-  listed-stop i b S T B L h l r S′ T′ B′ L′ a x e =
+  listed-stop i b E B L h l r E′ B′ L′ a x e =
       record {
         answer = e ∙ sym (turn-range (standardGround period) at n ∙ first-stop (tests period at) n i x h (l .fine) (sym (a .tested .answer) ∙ e));
         rising = λ f. absurd (refused-not (sym e ∙ f));
         listing = λ f. absurd (refused-not (sym e ∙ f));
       }
 
-  pub listed-all : (i : ℕ) (b : Bool) (S T B L : List ℕ) → n ≤ i → ListedTo period at n i b S T B L → AllListed period at n (record { verdict = Accepted; rising = b }) S T B L
+  pub listed-all : (i : ℕ) (b : Bool) (E B L : List ℕ) → n ≤ i → ListedTo period at n i b E B L → AllListed period at n (record { verdict = Accepted; rising = b }) E B L
   unfolding standardGrounds
-  listed-all i b S T B L h l =
+  listed-all i b E B L h l =
       let q : i ≡ n = omega (arith, l .within) in
       record {
         answer = sym (turn-range (standardGround period) at n ∙ rw q at (l .fine));

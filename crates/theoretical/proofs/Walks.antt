@@ -3,14 +3,16 @@
 use mathlib.Core.Path.{_≡_, refl, sym, ap, _∙_}
 use mathlib.Core.Bool.{true, false}
 use mathlib.Core.Option.{Option, none, some}
-use Prim.Native.Nat.{ℕ, zero, suc, pred, _≤_, _<_}
+use Prim.Native.Nat.{ℕ, zero, suc, pred, _+_, _*_, _^_, _≤_, _<_}
+use native.Mathlib.Decide.{decLt}
+use borrow.Author.Tests.{le-leb, lt-leb}
 use native.Mathlib.Omega.{arith}
 use Rattle.records.specs.declared.Standard.{Standard}
 use Rattle.records.specs.Log.{upTo}
 use Rattle.rules.specs.Theoretical.{inForce}
 use Rattle.rules.specs.RecordGrounds.{isAmong}
-use Rattle.theoretical.specs.Chains.{lastOf, linked, laterOf, Rising, Leads}
-use Rattle.theoretical.proofs.ChainLaws.{Walk, walk-start, walk-recipe, walk-next, force-skip, force-passed, force-counted, force-newest, among-skip, among-here, among-passed, later-assoc}
+use Rattle.theoretical.specs.Chains.{lastOf, Rising, Proper, entryOf, entryIn}
+use Rattle.theoretical.proofs.ChainLaws.{laterOf, Walk, walk-start, walk-recipe, walk-next, force-skip, force-passed, force-counted, force-newest, among-skip, among-here, among-passed, later-assoc}
 
 -- ---- for a recipe and a start
 
@@ -40,6 +42,20 @@ module _ (at : ℕ → Standard) (n : ℕ) (s : Standard) where
   looking-end link e l = sym (l .same ∙ ap (λ (k : ℕ). isAmong s (upTo at k)) e)
 
 -- ---- for the standard in force
+
+-- the standard that a link leads to
+abbrev pub linked : (ℕ → Standard) → ℕ → Option Standard
+linked at zero = none
+linked at (suc i) = some (at i)
+
+pub linked-entry : (at : ℕ → Standard) (link : ℕ) → 0 < link → entryOf (at (pred link)) ≡ entryIn (linked at link)
+linked-entry at zero pos = absurd (omega arith)
+linked-entry at (suc i) pos = refl
+
+-- a link to the standard in force among the first n, and 0 where none is
+pub record Leads (at : ℕ → Standard) (n recipe time link : ℕ) : Type 0 where
+  pub within : link ≤ n
+  pub answer : inForce (upTo at n) recipe time ≡ linked at link
 
 -- what is in force among all n is the later of what is among those up to the link, and the best behind it
 pub record Searching (at : ℕ → Standard) (n recipe time best link : ℕ) : Type 0 where
@@ -98,3 +114,82 @@ module _ (at : ℕ → Standard) (n recipe time : ℕ) where
   pub searching-end : (best link : ℕ) → link ≡ 0 → Searching at n recipe time best link → Leads at n recipe time best
   unfolding upTo inForce
   searching-end best link e l = record { within = l .within; answer = l .same ∙ ap (λ (k : ℕ). laterOf (inForce (upTo at k) recipe time) (linked at best)) e }
+
+-- ---- by entries
+
+-- a standard has begun where its entry is below the limit
+pub begun : (s : Standard) (time : ℕ) → entryOf s < (time + 1) * 2 ^ 27 → s .start ≤ time
+begun s time h = omega arith
+
+pub not-yet : (s : Standard) (time : ℕ) → s .theoretical < 2 ^ 27 → (time + 1) * 2 ^ 27 ≤ entryOf s → time < s .start
+not-yet s time short h = omega arith
+
+-- the best entry so far is that of a standard behind the link, to which `leads` is a link
+pub record Finding (at : ℕ → Standard) (n recipe time best link : ℕ) : Type 0 where
+  pub leads : ℕ
+  pub search : Searching at n recipe time leads link
+  pub held : best ≡ entryIn (linked at leads)
+  pub behind : (k : ℕ) → leads ≡ suc k → (link ≤ k) × (at k .recipe ≡ recipe)
+
+module _ (at : ℕ → Standard) (n recipe time : ℕ) where
+  pub finding-start : (link : ℕ) → link ≡ lastOf at recipe n → Finding at n recipe time 0 link
+  finding-start link e = record { leads = 0; search = searching-start at n recipe time link e; held = refl; behind = λ k q. absurd (omega arith) }
+
+  pub finding-end : (best link : ℕ) → link ≡ 0 → Finding at n recipe time best link → best ≡ entryIn (inForce (upTo at n) recipe time)
+  finding-end best link e f = f .held ∙ sym (ap entryIn (searching-end at n recipe time (f .leads) link e (f .search) .answer))
+
+  -- of a standard that has begun and the best behind it the one with the greater entry is the later, since no two have one start
+  module _ (fine : Proper at n) (i : ℕ) (low : i < n) (own : at i .recipe ≡ recipe) where
+    greater : (leads : ℕ) → leads ≤ n → ((k : ℕ) → leads ≡ suc k → (suc i ≤ k) × (at k .recipe ≡ recipe)) → entryIn (linked at leads) < entryOf (at i) → some (at i) ≡ laterOf (some (at i)) (linked at leads)
+    greater zero w b h = refl
+    greater (suc k) w b h = rw (le-leb (at k .start) (at i .start) (omega (arith, fine .timed i low .1)))
+
+    lesser : (leads : ℕ) → leads ≤ n → ((k : ℕ) → leads ≡ suc k → (suc i ≤ k) × (at k .recipe ≡ recipe)) → entryOf (at i) ≤ entryIn (linked at leads) → linked at leads ≡ laterOf (some (at i)) (linked at leads)
+    lesser zero w b h = absurd (omega (arith, fine .timed i low .0))
+    lesser (suc k) w b h =
+        let c = b k refl in
+        let ne : at i .start ≡ at k .start → ⊥ = fine .apart i k (omega (arith, c .0)) (omega arith) (own ∙ sym (c .1)) in
+        rw (lt-leb (at k .start) (at i .start) (omega (arith, ne, fine .timed k (omega arith) .1)))
+
+  -- one turn, by the three cases of the comparison
+  pub finding-next : (best link next now entry : ℕ) → 0 < link → Proper at n → Finding at n recipe time best link → entry ≡ entryOf (at (pred link))
+      → ((time + 1) * 2 ^ 27 ≤ entry → now ≡ best) × (entry < (time + 1) * 2 ^ 27 → (best < entry → now ≡ entry) × (entry ≤ best → now ≡ best))
+      → next ≡ lastOf at (at (pred link) .recipe) (pred link) → (Finding at n recipe time now next) × (next < link)
+  finding-next best zero next now entry pos fine f e cases d = absurd (omega arith)
+  finding-next best (suc i) next now entry pos fine f e cases d =
+      elim (decLt entry ((time + 1) * 2 ^ 27)) [
+        | yes l ↦ elim (decLt best entry) [ yes g ↦ taken l g | no g ↦ kept l (omega arith) ]
+        | no l ↦ passed (omega arith)
+      ]
+    where
+      low : i < n
+      low = omega (arith, f .search .walk .within)
+
+      own : at i .recipe ≡ recipe
+      own = f .search .walk .own i refl
+
+      shorter : next < suc i
+      shorter = walk-next at n recipe (suc i) next pos (f .search .walk) d .1
+
+      still : (k : ℕ) → f .leads ≡ suc k → (next ≤ k) × (at k .recipe ≡ recipe)
+      still k q = let c = f .behind k q in (omega (arith, c .0, shorter), c .1)
+
+      passed : (time + 1) * 2 ^ 27 ≤ entry → (Finding at n recipe time now next) × (next < suc i)
+      passed l =
+          let late : time < at i .start = not-yet (at i) time (fine .timed i low .1) (rw e at l) in
+          let t = searching-passed at n recipe time (f .leads) (suc i) next (f .leads) pos (f .search) late refl d in
+          (record { leads = f .leads; search = t .0; held = cases .0 l ∙ f .held; behind = still }, t .1)
+
+      taken : entry < (time + 1) * 2 ^ 27 → best < entry → (Finding at n recipe time now next) × (next < suc i)
+      taken l g =
+          let early : at i .start ≤ time = begun (at i) time (rw e at l) in
+          let larger : entryIn (linked at (f .leads)) < entryOf (at i) = rw (← f .held, ← e) g in
+          let t = searching-counted at n recipe time (f .leads) (suc i) next (suc i) (suc i) pos (f .search) early refl low (greater fine i low own (f .leads) (f .search .within) (f .behind) larger) d in
+          (record { leads = suc i; search = t .0; held = cases .1 l .0 g ∙ e; behind = λ k q. let z : i ≡ k = omega arith in (omega (arith, shorter), rw z at own) }, t .1)
+
+      kept : entry < (time + 1) * 2 ^ 27 → entry ≤ best → (Finding at n recipe time now next) × (next < suc i)
+      kept l g =
+          let early : at i .start ≤ time = begun (at i) time (rw e at l) in
+          let smaller : entryOf (at i) ≤ entryIn (linked at (f .leads)) = rw (← f .held, ← e) g in
+          let t = searching-counted at n recipe time (f .leads) (suc i) next (f .leads) (f .leads) pos (f .search) early refl (f .search .within) (lesser fine i low own (f .leads) (f .search .within) (f .behind) smaller) d in
+          (record { leads = f .leads; search = t .0; held = cases .1 l .1 g ∙ f .held; behind = still }, t .1)

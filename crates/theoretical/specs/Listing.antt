@@ -1,5 +1,5 @@
--- What the working arrays hold of the first n standards: starts S, theoretical times T, for each standard the link B to the one of its recipe before it, and
--- for each recipe the link L to its last one.
+-- What the working arrays hold of the first n standards: an entry of each, E, for each the link B to the one of its recipe before it, and for each recipe the
+-- link L to its last one.
 -- Definitions only.
 use mathlib.Core.Path.{_≡_}
 use mathlib.Core.List.{List}
@@ -12,18 +12,17 @@ use Rattle.rules.specs.declared.Verdict.{Verdict}
 use Rattle.rules.specs.declared.Verdict.the-variants.{Accepted}
 use Rattle.rules.specs.RecordGrounds.{standardGround, standardGrounds}
 use Rattle.theoretical.specs.declared.Listed.{Listed}
-use Rattle.theoretical.specs.Chains.{lastOf, Rising}
+use Rattle.theoretical.specs.Chains.{lastOf, Rising, entryOf}
 
 -- the chain of each recipe
-pub record Chained (at : ℕ → Standard) (n : ℕ) (S B : List ℕ) : Type 0 where
+pub record Chained (at : ℕ → Standard) (n : ℕ) (E B : List ℕ) : Type 0 where
   pub few : n ≤ 512
-  pub starts : (i : ℕ) → i < n → getD S i 0 ≡ at i .start
+  pub entries : (i : ℕ) → i < n → getD E i 0 ≡ entryOf (at i)
   pub links : (i : ℕ) → i < n → getD B i 0 ≡ lastOf at (at i .recipe) i
 
-pub record Listing (at : ℕ → Standard) (n : ℕ) (S T B L : List ℕ) : Type 0 where
-  pub sized : (length S ≡ 512) × (length T ≡ 512) × (length B ≡ 512) × (length L ≡ 1024)
-  pub chained : Chained at n S B
-  pub times : (i : ℕ) → i < n → getD T i 0 ≡ at i .theoretical
+pub record Listing (at : ℕ → Standard) (n : ℕ) (E B L : List ℕ) : Type 0 where
+  pub sized : (length E ≡ 512) × (length B ≡ 512) × (length L ≡ 1024)
+  pub chained : Chained at n E B
   pub lasts : (recipe : ℕ) → recipe < 1024 → getD L recipe 0 ≡ lastOf at recipe n
 
 -- standard i tested; whether the starts rise is told where it passes
@@ -32,12 +31,12 @@ pub record Tested (period : ℕ) (at : ℕ → Standard) (i : ℕ) (r : Listed) 
   pub rising : r .verdict ≡ Accepted → r .rising ≡ true → Rising at (i + 1)
 
 -- standard i tested, and listed where it passes
-pub record Added (period : ℕ) (at : ℕ → Standard) (i : ℕ) (r : Listed) (S T B L : List ℕ) : Type 0 where
+pub record Added (period : ℕ) (at : ℕ → Standard) (i : ℕ) (r : Listed) (E B L : List ℕ) : Type 0 where
   pub tested : Tested period at i r
-  pub listing : r .verdict ≡ Accepted → Listing at (i + 1) S T B L
+  pub listing : r .verdict ≡ Accepted → Listing at (i + 1) E B L
 
 -- all n standards tested and listed
-pub record AllListed (period : ℕ) (at : ℕ → Standard) (n : ℕ) (r : Listed) (S T B L : List ℕ) : Type 0 where
+pub record AllListed (period : ℕ) (at : ℕ → Standard) (n : ℕ) (r : Listed) (E B L : List ℕ) : Type 0 where
   pub answer : r .verdict ≡ standardGrounds period (upTo at n)
   pub rising : r .verdict ≡ Accepted → r .rising ≡ true → Rising at n
-  pub listing : r .verdict ≡ Accepted → Listing at n S T B L
+  pub listing : r .verdict ≡ Accepted → Listing at n E B L

@@ -2,11 +2,11 @@
 ghost use mathlib.Core.Path.{_≡_};
 ghost use mathlib.Core.Bool.{true};
 ghost use Prim.Native.Nat.{pred, _+_, _*_, _^_, _<_, _≤_};
-ghost use lib.ListN.{getD, set, replicate};
+ghost use lib.ListN.{length, getD, set, replicate};
 ghost use Rattle.records.specs.Log.{upTo, standardAt, unitAt};
-ghost use Rattle.rules.specs.Theoretical.{inForce};
+ghost use Rattle.rules.specs.Theoretical.{inForce, timeOf};
 ghost use Rattle.rules.specs.RecordGrounds.{isAmong, standardGround, unitGround};
-ghost use Rattle.theoretical.specs.Chains.{lastOf, linked, laterOf, Rising, Leads, lookupOf};
+ghost use Rattle.theoretical.specs.Chains.{lastOf, Rising, Proper, entryOf, entryIn};
 ghost use Rattle.theoretical.specs.Listing.{Chained, Listing, Tested, Added, AllListed};
 ghost use Rattle.theoretical.specs.Credits.{ownGrounds, Summed, Unit, AllUnits, Units};
 use records::Header;
@@ -14,12 +14,6 @@ use records::Standard;
 use records::UnitRecord;
 use rules::Refusal;
 use rules::Verdict;
-
-// What looking up a standard answers: the standard in force, or none.
-pub enum Lookup {
-    Found(Standard),
-    Nothing,
-}
 
 // The answer to the standards tested so far, and whether the starts of each recipe rise in list sequence.
 pub struct Listed {
@@ -37,20 +31,37 @@ fn refused(number: usize, list: usize, place: usize) -> Verdict
     })
 }
 
+// The entry of the standard that a link leads to: its start and, in the last 27 bits, its theoretical time. So the later of two starts has the greater
+// entry.
+fn entry_at(
+    log: &[u8],
+    h: Header,
+    n: usize,
+    entries: &[u64; 512],
+    links: &[usize; 512],
+    link: usize,
+) -> u64
+    requires { ⌜ Chained (standardAt (now log) h) n (now entries) (now links) ⌝ }
+    requires { ⌜ (0 < link) × (link ≤ n) ⌝ }
+    ensures { λ r. ⌜ r ≡ entryOf (standardAt (now (log .entry)) h (pred link)) ⌝ }
+{
+    entries[link - 1]
+}
+
 // The start of the standard that a link leads to.
 fn start_of(
     log: &[u8],
     h: Header,
     n: usize,
-    starts: &[u64; 512],
+    entries: &[u64; 512],
     links: &[usize; 512],
     link: usize,
 ) -> u64
-    requires { ⌜ Chained (standardAt (now log) h) n (now starts) (now links) ⌝ }
+    requires { ⌜ Chained (standardAt (now log) h) n (now entries) (now links) ⌝ }
     requires { ⌜ (0 < link) × (link ≤ n) ⌝ }
     ensures { λ r. ⌜ r ≡ standardAt (now (log .entry)) h (pred link) .start ⌝ }
 {
-    starts[link - 1]
+    entry_at(log, h, n, entries, links, link) / 0x800_0000
 }
 
 // The link to the standard of the same recipe before it.
@@ -58,11 +69,11 @@ fn link_before(
     log: &[u8],
     h: Header,
     n: usize,
-    starts: &[u64; 512],
+    entries: &[u64; 512],
     links: &[usize; 512],
     link: usize,
 ) -> usize
-    requires { ⌜ Chained (standardAt (now log) h) n (now starts) (now links) ⌝ }
+    requires { ⌜ Chained (standardAt (now log) h) n (now entries) (now links) ⌝ }
     requires { ⌜ (0 < link) × (link ≤ n) ⌝ }
     ensures { λ r. ⌜ r ≡ lastOf (standardAt (now (log .entry)) h) (standardAt (now (log .entry)) h (pred link) .recipe) (pred link) ⌝ }
 {
@@ -74,154 +85,139 @@ fn is_listed(
     log: &[u8],
     h: Header,
     n: usize,
-    starts: &[u64; 512],
+    entries: &[u64; 512],
     links: &[usize; 512],
     from: usize,
     s: Standard,
 ) -> bool
-    requires { ⌜ Chained (standardAt (now log) h) n (now starts) (now links) ⌝ }
+    requires { ⌜ Chained (standardAt (now log) h) n (now entries) (now links) ⌝ }
     requires { ⌜ from ≡ lastOf (standardAt (now log) h) (s .recipe) n ⌝ }
     ensures { λ r. ⌜ r ≡ isAmong s (upTo (standardAt (now (log .entry)) h) n) ⌝ }
 {
     let mut link = from;
     while link != 0 {
-        if start_of(log, h, n, starts, links, link) == s.start {
+        if start_of(log, h, n, entries, links, link) == s.start {
             return true;
         }
-        link = link_before(log, h, n, starts, links, link);
+        link = link_before(log, h, n, entries, links, link);
     }
     false
 }
 
-// The link to the standard in force where the starts rise: the first on the chain that has begun.
+// What the entries of the standards that have begun by a time are below.
+fn limit_of(time: u64) -> u64
+    requires { ⌜ time < 2 ^ 35 ⌝ }
+    ensures { λ r. ⌜ r ≡ (time + 1) * 2 ^ 27 ⌝ }
+{
+    (time + 1) * 0x800_0000
+}
+
+// The entry of the standard in force where the starts rise, and 0 where none is: the first on the chain that has begun.
 fn newest(
     log: &[u8],
     h: Header,
     n: usize,
-    starts: &[u64; 512],
+    entries: &[u64; 512],
     links: &[usize; 512],
     from: usize,
     recipe: usize,
     time: u64,
-) -> usize
-    requires { ⌜ Chained (standardAt (now log) h) n (now starts) (now links) ⌝ }
-    requires { ⌜ from ≡ lastOf (standardAt (now log) h) recipe n ⌝ }
+) -> u64
+    requires { ⌜ Chained (standardAt (now log) h) n (now entries) (now links) ⌝ }
+    requires { ⌜ (from ≡ lastOf (standardAt (now log) h) recipe n) × (time < 2 ^ 35) ⌝ }
     requires { ⌜ Rising (standardAt (now log) h) n ⌝ }
-    ensures { λ r. ⌜ Leads (standardAt (now (log .entry)) h) n recipe time r ⌝ }
+    ensures { λ r. ⌜ r ≡ entryIn (inForce (upTo (standardAt (now (log .entry)) h) n) recipe time) ⌝ }
 {
+    let limit = limit_of(time);
     let mut link = from;
     while link != 0 {
-        if start_of(log, h, n, starts, links, link) <= time {
-            return link;
+        let entry = entry_at(log, h, n, entries, links, link);
+        if entry < limit {
+            return entry;
         }
-        link = link_before(log, h, n, starts, links, link);
+        link = link_before(log, h, n, entries, links, link);
     }
     0
 }
 
-// Of the best link so far and one before it, the one to the later start, and the one before where they are equal.
-fn better(
-    log: &[u8],
-    h: Header,
-    n: usize,
-    starts: &[u64; 512],
-    links: &[usize; 512],
-    best: usize,
-    link: usize,
-) -> usize
-    requires { ⌜ Chained (standardAt (now log) h) n (now starts) (now links) ⌝ }
-    requires { ⌜ (0 < link) × (link ≤ n) × (best ≤ n) ⌝ }
-    ensures { λ r. ⌜ (r ≤ n) × (linked (standardAt (now (log .entry)) h) r ≡ laterOf (linked (standardAt (now (log .entry)) h) link) (linked (standardAt (now (log .entry)) h) best)) ⌝ }
+// The greater of two entries, where the second is below the limit. Values and not branches, for the starts come in any sequence.
+fn later_entry(best: u64, entry: u64, limit: u64) -> u64
+    ensures { λ r. ⌜ (limit ≤ entry → r ≡ best) × (entry < limit → (best < entry → r ≡ entry) × (entry ≤ best → r ≡ best)) ⌝ }
 {
-    if best == 0 {
-        return link;
-    }
-    let found = start_of(log, h, n, starts, links, best);
-    if found <= start_of(log, h, n, starts, links, link) {
-        return link;
-    }
-    best
+    let begun = if entry < limit { entry } else { 0 };
+    if best < begun { begun } else { best }
 }
 
-// The link to the standard in force, in lists in any sequence: the whole chain is walked.
+// The entry of the standard in force, and 0 where none is, in lists in any sequence: the whole chain is walked.
 fn latest(
     log: &[u8],
     h: Header,
     n: usize,
-    starts: &[u64; 512],
+    entries: &[u64; 512],
     links: &[usize; 512],
     from: usize,
     recipe: usize,
     time: u64,
-) -> usize
-    requires { ⌜ Chained (standardAt (now log) h) n (now starts) (now links) ⌝ }
-    requires { ⌜ from ≡ lastOf (standardAt (now log) h) recipe n ⌝ }
-    ensures { λ r. ⌜ Leads (standardAt (now (log .entry)) h) n recipe time r ⌝ }
+) -> u64
+    requires { ⌜ Chained (standardAt (now log) h) n (now entries) (now links) ⌝ }
+    requires { ⌜ (from ≡ lastOf (standardAt (now log) h) recipe n) × (time < 2 ^ 35) ⌝ }
+    requires { ⌜ Proper (standardAt (now log) h) n ⌝ }
+    ensures { λ r. ⌜ r ≡ entryIn (inForce (upTo (standardAt (now (log .entry)) h) n) recipe time) ⌝ }
 {
-    let mut best: usize = 0;
+    let limit = limit_of(time);
+    let mut best: u64 = 0;
     let mut link = from;
     while link != 0 {
-        if start_of(log, h, n, starts, links, link) <= time {
-            best = better(log, h, n, starts, links, best, link);
-        }
-        link = link_before(log, h, n, starts, links, link);
+        let entry = entry_at(log, h, n, entries, links, link);
+        best = later_entry(best, entry, limit);
+        link = link_before(log, h, n, entries, links, link);
     }
     best
 }
 
-// The link to the standard in force for a recipe at a time, and 0 where none is.
-fn link_in_force(
+// The entry of the standard in force for a recipe at a time, and 0 where none is.
+fn entry_in_force(
     log: &[u8],
     h: Header,
     n: usize,
-    starts: &[u64; 512],
+    entries: &[u64; 512],
     links: &[usize; 512],
     from: usize,
     recipe: usize,
     time: u64,
     rising: bool,
-) -> usize
-    requires { ⌜ Chained (standardAt (now log) h) n (now starts) (now links) ⌝ }
-    requires { ⌜ from ≡ lastOf (standardAt (now log) h) recipe n ⌝ }
-    requires { ⌜ (rising ≡ true → Rising (standardAt (now log) h) n) ⌝ }
-    ensures { λ r. ⌜ Leads (standardAt (now (log .entry)) h) n recipe time r ⌝ }
+) -> u64
+    requires { ⌜ Chained (standardAt (now log) h) n (now entries) (now links) ⌝ }
+    requires { ⌜ (from ≡ lastOf (standardAt (now log) h) recipe n) × (time < 2 ^ 35) ⌝ }
+    requires { ⌜ (rising ≡ true → Rising (standardAt (now log) h) n) × Proper (standardAt (now log) h) n ⌝ }
+    ensures { λ r. ⌜ r ≡ entryIn (inForce (upTo (standardAt (now (log .entry)) h) n) recipe time) ⌝ }
 {
     if rising {
-        newest(log, h, n, starts, links, from, recipe, time)
+        newest(log, h, n, entries, links, from, recipe, time)
     } else {
-        latest(log, h, n, starts, links, from, recipe, time)
+        latest(log, h, n, entries, links, from, recipe, time)
     }
 }
 
-// The standard in force for a recipe at a time, or none.
-fn look_up(
+// The theoretical time in force for a recipe at a time, and 0 where there is none.
+fn time_in_force(
     log: &[u8],
     h: Header,
     n: usize,
-    starts: &[u64; 512],
-    times: &[u64; 512],
+    entries: &[u64; 512],
     links: &[usize; 512],
     last: &[usize; 1024],
     rising: bool,
     recipe: usize,
     time: u64,
-) -> Lookup
-    requires { ⌜ Listing (standardAt (now log) h) n (now starts) (now times) (now links) (now last) ⌝ }
-    requires { ⌜ (rising ≡ true → Rising (standardAt (now log) h) n) ⌝ }
-    requires { ⌜ recipe < 1024 ⌝ }
-    ensures { λ r. ⌜ r ≡ lookupOf (inForce (upTo (standardAt (now (log .entry)) h) n) recipe time) ⌝ }
+) -> u64
+    requires { ⌜ Listing (standardAt (now log) h) n (now entries) (now links) (now last) ⌝ }
+    requires { ⌜ (rising ≡ true → Rising (standardAt (now log) h) n) × Proper (standardAt (now log) h) n ⌝ }
+    requires { ⌜ (recipe < 1024) × (time < 2 ^ 35) ⌝ }
+    ensures { λ r. ⌜ r ≡ timeOf (inForce (upTo (standardAt (now (log .entry)) h) n) recipe time) ⌝ }
 {
     let from = last[recipe];
-    let link = link_in_force(log, h, n, starts, links, from, recipe, time, rising);
-    if link == 0 {
-        return Lookup::Nothing;
-    }
-    let i = link - 1;
-    Lookup::Found(Standard {
-        recipe,
-        start: starts[i],
-        theoretical: times[i],
-    })
+    entry_in_force(log, h, n, entries, links, from, recipe, time, rising) % 0x800_0000
 }
 
 // Whether a start is later than that of every earlier standard of its recipe, where the starts rise.
@@ -229,19 +225,19 @@ fn is_newest(
     log: &[u8],
     h: Header,
     n: usize,
-    starts: &[u64; 512],
+    entries: &[u64; 512],
     links: &[usize; 512],
     from: usize,
     start: u64,
 ) -> bool
-    requires { ⌜ Chained (standardAt (now log) h) n (now starts) (now links) ⌝ }
+    requires { ⌜ Chained (standardAt (now log) h) n (now entries) (now links) ⌝ }
     requires { ⌜ from ≤ n ⌝ }
     ensures { λ r. ⌜ (r ≡ true → (0 < from → standardAt (now (log .entry)) h (pred from) .start < start)) ⌝ }
 {
     if from == 0 {
         return true;
     }
-    start_of(log, h, n, starts, links, from) < start
+    start_of(log, h, n, entries, links, from) < start
 }
 
 // Standard i tested for 9, 12 and 13.
@@ -249,13 +245,13 @@ fn test_standard(
     log: &[u8],
     h: Header,
     i: usize,
-    starts: &[u64; 512],
+    entries: &[u64; 512],
     links: &[usize; 512],
     from: usize,
     rising: bool,
     s: Standard,
 ) -> Listed
-    requires { ⌜ Chained (standardAt (now log) h) i (now starts) (now links) ⌝ }
+    requires { ⌜ Chained (standardAt (now log) h) i (now entries) (now links) ⌝ }
     requires { ⌜ (s ≡ standardAt (now log) h i) × (from ≡ lastOf (standardAt (now log) h) (s .recipe) i) ⌝ }
     requires { ⌜ (rising ≡ true → Rising (standardAt (now log) h) i) ⌝ }
     ensures { λ r. ⌜ Tested (h .period) (standardAt (now (log .entry)) h) i r ⌝ }
@@ -269,14 +265,14 @@ fn test_standard(
         return Listed { verdict, rising };
     }
     if rising {
-        if is_newest(log, h, i, starts, links, from, s.start) {
+        if is_newest(log, h, i, entries, links, from, s.start) {
             return Listed {
                 verdict: Verdict::Accepted,
                 rising: true,
             };
         }
     }
-    if is_listed(log, h, i, starts, links, from, s) {
+    if is_listed(log, h, i, entries, links, from, s) {
         let verdict = refused(13, 2, i);
         return Listed { verdict, rising };
     }
@@ -291,19 +287,17 @@ fn store_standard(
     log: &[u8],
     h: Header,
     i: usize,
-    starts: &mut [u64; 512],
-    times: &mut [u64; 512],
+    entries: &mut [u64; 512],
     links: &mut [usize; 512],
     last: &mut [usize; 1024],
     s: Standard,
 )
-    requires { ⌜ Listing (standardAt (now log) h) i (now starts) (now times) (now links) (now last) ⌝ }
+    requires { ⌜ Listing (standardAt (now log) h) i (now entries) (now links) (now last) ⌝ }
     requires { ⌜ (s ≡ standardAt (now log) h i) × (i < 512) ⌝ }
-    ensures { λ r. ⌜ Listing (standardAt (now (log .entry)) h) (i + 1) (now (starts .exit)) (now (times .exit)) (now (links .exit)) (now (last .exit)) ⌝ }
+    ensures { λ r. ⌜ Listing (standardAt (now (log .entry)) h) (i + 1) (now (entries .exit)) (now (links .exit)) (now (last .exit)) ⌝ }
 {
     let recipe = s.recipe;
-    starts[i] = s.start;
-    times[i] = s.theoretical;
+    entries[i] = s.start * 0x800_0000 + s.theoretical;
     links[i] = last[recipe];
     last[recipe] = i + 1;
 }
@@ -313,24 +307,23 @@ fn list_standard(
     log: &[u8],
     h: Header,
     i: usize,
-    starts: &mut [u64; 512],
-    times: &mut [u64; 512],
+    entries: &mut [u64; 512],
     links: &mut [usize; 512],
     last: &mut [usize; 1024],
     rising: bool,
 ) -> Listed
-    requires { ⌜ Listing (standardAt (now log) h) i (now starts) (now times) (now links) (now last) ⌝ }
+    requires { ⌜ Listing (standardAt (now log) h) i (now entries) (now links) (now last) ⌝ }
     requires { ⌜ (rising ≡ true → Rising (standardAt (now log) h) i) ⌝ }
-    requires { ⌜ i < 512 ⌝ }
-    ensures { λ r. ⌜ Added (h .period) (standardAt (now (log .entry)) h) i r (now (starts .exit)) (now (times .exit)) (now (links .exit)) (now (last .exit)) ⌝ }
+    requires { ⌜ (i < 512) × (10 + 6 * h .states + 9 * i + 9 ≤ length (now log)) ⌝ }
+    ensures { λ r. ⌜ Added (h .period) (standardAt (now (log .entry)) h) i r (now (entries .exit)) (now (links .exit)) (now (last .exit)) ⌝ }
 {
-    let s = records::standard_record(log, h, i);
+    let s = records::standard_within(log, h, i);
     let recipe = s.recipe;
     let from = last[recipe];
-    let tested = test_standard(log, h, i, starts, links, from, rising, s);
+    let tested = test_standard(log, h, i, entries, links, from, rising, s);
     let verdict = tested.verdict;
     if let Verdict::Accepted = verdict {
-        store_standard(log, h, i, starts, times, links, last, s);
+        store_standard(log, h, i, entries, links, last, s);
     }
     tested
 }
@@ -339,19 +332,18 @@ fn list_standard(
 fn list_standards(
     log: &[u8],
     h: Header,
-    starts: &mut [u64; 512],
-    times: &mut [u64; 512],
+    entries: &mut [u64; 512],
     links: &mut [usize; 512],
     last: &mut [usize; 1024],
 ) -> Listed
-    requires { ⌜ h .standards ≤ 512 ⌝ }
-    requires { ⌜ Listing (standardAt (now log) h) 0 (now starts) (now times) (now links) (now last) ⌝ }
-    ensures { λ r. ⌜ AllListed (h .period) (standardAt (now (log .entry)) h) (h .standards) r (now (starts .exit)) (now (times .exit)) (now (links .exit)) (now (last .exit)) ⌝ }
+    requires { ⌜ (h .standards ≤ 512) × (10 + 6 * h .states + 9 * h .standards ≤ length (now log)) ⌝ }
+    requires { ⌜ Listing (standardAt (now log) h) 0 (now entries) (now links) (now last) ⌝ }
+    ensures { λ r. ⌜ AllListed (h .period) (standardAt (now (log .entry)) h) (h .standards) r (now (entries .exit)) (now (links .exit)) (now (last .exit)) ⌝ }
 {
     let mut rising = true;
     let n = h.standards;
     for i in 0..n {
-        let added = list_standard(log, h, i, starts, times, links, last, rising);
+        let added = list_standard(log, h, i, entries, links, last, rising);
         let verdict = added.verdict;
         if let Verdict::Refused(_) = verdict {
             return added;
@@ -396,43 +388,32 @@ fn credit_unit(
     log: &[u8],
     h: Header,
     i: usize,
-    starts: &[u64; 512],
-    times: &[u64; 512],
+    entries: &[u64; 512],
     links: &[usize; 512],
     last: &[usize; 1024],
     rising: bool,
     actual: &mut [u64; 64],
     effective: &mut [u64; 64],
 ) -> Verdict
-    requires { ⌜ Listing (standardAt (now log) h) (h .standards) (now starts) (now times) (now links) (now last) ⌝ }
-    requires { ⌜ (rising ≡ true → Rising (standardAt (now log) h) (h .standards)) ⌝ }
+    requires { ⌜ Listing (standardAt (now log) h) (h .standards) (now entries) (now links) (now last) ⌝ }
+    requires { ⌜ (rising ≡ true → Rising (standardAt (now log) h) (h .standards)) × Proper (standardAt (now log) h) (h .standards) ⌝ }
     requires { ⌜ Summed (upTo (standardAt (now log) h) (h .standards)) (upTo (unitAt (now log) h) i) i (now actual) (now effective) ⌝ }
-    requires { ⌜ i < 2000 ⌝ }
+    requires { ⌜ (i < 2000) × (10 + 6 * h .states + 9 * h .standards + 11 * i + 11 ≤ length (now log)) ⌝ }
     ensures { λ r. ⌜ Unit (h .period) (h .modules) (upTo (standardAt (now (log .entry)) h) (h .standards)) (unitAt (now (log .entry)) h) i r (now (actual .exit)) (now (effective .exit)) ⌝ }
 {
-    let u = records::unit_record(log, h, i);
+    let u = records::unit_within(log, h, i);
     let own = test_unit(h, i, u);
     if let Verdict::Refused(_) = own {
         return own;
     }
     let n = h.standards;
-    let Lookup::Found(s) = look_up(
-        log,
-        h,
-        n,
-        starts,
-        times,
-        links,
-        last,
-        rising,
-        u.recipe,
-        u.time,
-    ) else {
+    let theoretical = time_in_force(log, h, n, entries, links, last, rising, u.recipe, u.time);
+    if theoretical == 0 {
         return refused(15, 3, i);
-    };
+    }
     let m = u.module;
-    credit(actual, m, u.actual, s.theoretical);
-    credit(effective, m, u.effective, s.theoretical);
+    credit(actual, m, u.actual, theoretical);
+    credit(effective, m, u.effective, theoretical);
     Verdict::Accepted
 }
 
@@ -440,34 +421,22 @@ fn credit_unit(
 fn credit_listed(
     log: &[u8],
     h: Header,
-    starts: &[u64; 512],
-    times: &[u64; 512],
+    entries: &[u64; 512],
     links: &[usize; 512],
     last: &[usize; 1024],
     rising: bool,
     actual: &mut [u64; 64],
     effective: &mut [u64; 64],
 ) -> Verdict
-    requires { ⌜ Listing (standardAt (now log) h) (h .standards) (now starts) (now times) (now links) (now last) ⌝ }
-    requires { ⌜ (rising ≡ true → Rising (standardAt (now log) h) (h .standards)) ⌝ }
+    requires { ⌜ Listing (standardAt (now log) h) (h .standards) (now entries) (now links) (now last) ⌝ }
+    requires { ⌜ (rising ≡ true → Rising (standardAt (now log) h) (h .standards)) × Proper (standardAt (now log) h) (h .standards) ⌝ }
     requires { ⌜ Summed (upTo (standardAt (now log) h) (h .standards)) (upTo (unitAt (now log) h) 0) 0 (now actual) (now effective) ⌝ }
-    requires { ⌜ h .units ≤ 2000 ⌝ }
+    requires { ⌜ (h .units ≤ 2000) × (10 + 6 * h .states + 9 * h .standards + 11 * h .units ≤ length (now log)) ⌝ }
     ensures { λ r. ⌜ AllUnits (h .period) (h .modules) (upTo (standardAt (now (log .entry)) h) (h .standards)) (upTo (unitAt (now (log .entry)) h) (h .units)) r (now (actual .exit)) (now (effective .exit)) ⌝ }
 {
     let n = h.units;
     for i in 0..n {
-        let verdict = credit_unit(
-            log,
-            h,
-            i,
-            starts,
-            times,
-            links,
-            last,
-            rising,
-            actual,
-            effective,
-        );
+        let verdict = credit_unit(log, h, i, entries, links, last, rising, actual, effective);
         if let Verdict::Refused(_) = verdict {
             return verdict;
         }
@@ -483,15 +452,14 @@ pub fn credit_units(
     actual: &mut [u64; 64],
     effective: &mut [u64; 64],
 ) -> Verdict
-    requires { ⌜ (h .standards ≤ 512) × (h .units ≤ 2000) ⌝ }
+    requires { ⌜ (h .standards ≤ 512) × (h .units ≤ 2000) × (10 + 6 * h .states + 9 * h .standards + 11 * h .units ≤ length (now log)) ⌝ }
     requires { ⌜ (now actual ≡ replicate 64 0) × (now effective ≡ replicate 64 0) ⌝ }
     ensures { λ r. ⌜ Units (h .period) (h .modules) (upTo (standardAt (now (log .entry)) h) (h .standards)) (upTo (unitAt (now (log .entry)) h) (h .units)) r (now (actual .exit)) (now (effective .exit)) ⌝ }
 {
-    let mut starts = [0u64; 512];
-    let mut times = [0u64; 512];
+    let mut entries = [0u64; 512];
     let mut links = [0usize; 512];
     let mut last = [0usize; 1024];
-    let listed = list_standards(log, h, &mut starts, &mut times, &mut links, &mut last);
+    let listed = list_standards(log, h, &mut entries, &mut links, &mut last);
     let verdict = listed.verdict;
     if let Verdict::Refused(_) = verdict {
         return verdict;
@@ -499,8 +467,7 @@ pub fn credit_units(
     credit_listed(
         log,
         h,
-        &starts,
-        &times,
+        &entries,
         &links,
         &last,
         listed.rising,

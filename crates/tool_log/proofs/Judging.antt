@@ -7,6 +7,7 @@ use Prim.Native.Nat.{ℕ, _+_, _*_, _≤_, _<_}
 use native.Mathlib.Omega.{arith}
 use lib.ListN.{length, getD}
 use lib.Dec.{ltb}
+use borrow.Author.Tests.{eqb-true, not-false}
 use Rattle.records.specs.declared.Header.{Header}
 use Rattle.records.specs.Log.{Log, headerOf, stateAt, standardAt, unitAt, upTo, decode}
 use Rattle.rules.specs.declared.Refusal.{Refusal}
@@ -22,17 +23,18 @@ use Rattle.theoretical.specs.Credits.{Units}
 use Rattle.tool_log.specs.Working.{Held, Grounded, Sound, Summed, Judged}
 use Rattle.tool_log.proofs.Bounds.{good-period, good-modules, good-counts}
 
--- what an accepted header tells
-pub record Counted (h : Header) : Type 0 where
+-- what an accepted header tells, of a log of n bytes
+pub record Counted (n : ℕ) (h : Header) : Type 0 where
   pub period : (0 < h .period) × (h .period ≤ 31622400000)
   pub modules : (0 < h .modules) × (h .modules ≤ 64)
   pub counts : (h .states ≤ 6000) × (h .standards ≤ 512) × (h .units ≤ 2000)
+  pub whole : n ≡ 10 + 6 * h .states + 9 * h .standards + 11 * h .units
 
-pub counted : (s : List ℕ) (h : Header) → h ≡ headerOf s → headerGrounds s ≡ Accepted → Counted h
+pub counted : (s : List ℕ) (h : Header) → h ≡ headerOf s → headerGrounds s ≡ Accepted → Counted (length s) h
 unfolding headerGrounds
 counted s h eh e = rw eh told
   where
-    told : Counted (headerOf s)
+    told : Counted (length s) (headerOf s)
     told =
         let h = headerOf s in
         let a = then-right (ground 1 0 0 (ltb (length s) 10)) _ e in
@@ -44,6 +46,7 @@ counted s h eh e = rw eh told
           period = good-period (h .period) (not-met 2 0 0 (badPeriod (h .period)) (then-left (ground 2 0 0 (badPeriod (h .period))) (ground 3 0 0 (badModules (h .modules)) then counts) a));
           modules = good-modules (h .modules) (not-met 3 0 0 (badModules (h .modules)) (then-left (ground 3 0 0 (badModules (h .modules))) counts b));
           counts = good-counts h (not-met 4 0 0 (badCounts h) (then-left (ground 4 0 0 (badCounts h)) length c));
+          whole = eqb-true _ _ (not-false _ (not-met 5 0 0 (badLength _ h) (then-right (ground 4 0 0 (badCounts h)) length c)));
         }
 
 module _ (s : List ℕ) where

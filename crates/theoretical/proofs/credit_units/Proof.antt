@@ -1,23 +1,26 @@
 -- `theoretical::credit_units` meets its contract: the standards are tested and listed, then the unit records are tested and credited by the listing.
 -- Assumes nothing.
 use borrow.Author.Needs.{needs}
+use native.Mathlib.Omega.{arith}
 use mathlib.Core.Path.{_≡_, refl, sym, ap, _∙_}
 use Rattle.records.specs.Log.{upTo, standardAt, unitAt}
 use Rattle.rules.specs.declared.Verdict.{Verdict}
 use Rattle.rules.specs.Grounds.{_then_}
 use Rattle.rules.specs.RecordGrounds.{unitGrounds}
 use Rattle.rules.proofs.FirstGround.{refused-not}
-use Rattle.theoretical.proofs.Listings.{listing-none}
+use Rattle.theoretical.proofs.Listings.{time-low, proper-accepted, listing-none}
 use Rattle.theoretical.proofs.Crediting.{summed-none}
 use Rattle.theoretical.proofs.credit_units.Statement.{statement}
 use Rattle.theoretical.proofs.credit_units.Tie as tie
 
 list-standards-requires : tie.Need-list-standards-requires
-list-standards-requires c κs = let s = c .before .before .before .before .before in (s .pre .0 .0, listing-none (standardAt (s .args .log .now) (s .args .h)) _ _ _ _ refl refl refl refl)
+list-standards-requires c κs =
+    let s = c .before .before .before .before in
+    ((s .pre .0 .0, omega (arith, s .pre .0 .2)), listing-none (standardAt (s .args .log .now) (s .args .h)) _ _ _ refl refl refl)
 
 returns : tie.Need-returns
 returns c =
-    let a = c .before .before .before .before .before .before .before .before .args in
+    let a = c .before .before .before .before .before .before .before .args in
     let l = c .before .before .list-standards in
     let us = unitGrounds (a .h .period) (a .h .modules) (upTo (standardAt (a .log .now) (a .h)) (a .h .standards)) (upTo (unitAt (a .log .now) (a .h)) (a .h .units)) in
     record {
@@ -27,18 +30,23 @@ returns c =
 
 credit-listed-requires : tie.Need-credit-listed-requires
 credit-listed-requires c κs =
-    let s = c .before .before .before .before .before .before .before .before .before .before .before .before .before .before in
+    let t = c .before .before .before .before .before in
+    let r = t .before .before in
+    let s = r .before .before .before .before .before in
     let a = s .args in
-    let l = c .before .before .before .before .before .before .before .before .list-standards .ensures in
-    let fine = c .before .before .before .before .before .before .enum-told2 .given .1 in
-    (l .listing fine, (l .rising fine, (summed-none _ _ _ _ (s .pre .1 .0) (s .pre .1 .1), s .pre .0 .1)))
+    let l = r .list-standards .ensures in
+    let fine = t .enum-told2 .given .1 in
+    let proper = proper-accepted (a .h .period) (standardAt (a .log .now) (a .h)) (a .h .standards) (time-low (a .log .now) (a .h)) (sym (l .answer) ∙ fine) in
+    (l .listing fine, ((l .rising fine, proper), (summed-none _ _ _ _ (s .pre .1 .0) (s .pre .1 .1), (s .pre .0 .1, s .pre .0 .2))))
 
 returns-2 : tie.Need-returns-2
 returns-2 c =
-    let a = c .before .before .before .before .before .before .before .before .before .before .before .before .before .before .before .args in
-    let l = c .before .before .before .before .before .before .before .before .before .list-standards in
+    let t = c .before .before .before .before .before .before in
+    let r = t .before .before in
+    let a = r .before .before .before .before .before .args in
+    let l = r .list-standards in
     let us = unitGrounds (a .h .period) (a .h .modules) (upTo (standardAt (a .log .now) (a .h)) (a .h .standards)) (upTo (unitAt (a .log .now) (a .h)) (a .h .units)) in
-    let fine = c .before .before .before .before .before .before .before .enum-told2 .given .1 in
+    let fine = t .enum-told2 .given .1 in
     record {
       answer = c .credit-listed .ensures .answer ∙ sym (ap (λ (v : Verdict). v then us) (sym (l .ensures .answer) ∙ fine));
       credited = c .credit-listed .ensures .credited;

@@ -2,22 +2,21 @@
 -- Assumes nothing.
 use borrow.Author.Needs.{needs}
 use mathlib.Core.Path.{sym, _∙_}
-use Prim.Native.Nat.{_+_, _*_, _<_}
+use Prim.Native.Nat.{_<_}
 use native.Mathlib.Omega.{arith}
-use Rattle.records.specs.Log.{standardAt}
-use Rattle.records.proofs.Widths.{standard-fits}
 use Rattle.rules.proofs.FirstGround.{refused-not}
+use Rattle.theoretical.proofs.Listings.{recipe-low}
 use Rattle.theoretical.proofs.list_standard.Statement.{statement}
 use Rattle.theoretical.proofs.list_standard.Tie as tie
 
-low : (c : tie.After-standard-record) → c .standard-record .result .recipe < 1024
-low c = let a = c .before .before .args in rw (c .standard-record .ensures) (standard-fits (a .log .now) (80 + 48 * a .h .states + 72 * a .i) .0)
+low : (c : tie.After-standard-within) → c .standard-within .result .recipe < 1024
+low c = let a = c .before .before .args in rw (c .standard-within .ensures) (recipe-low (a .log .now) (a .h) (a .i))
 
 test-standard-requires : tie.Need-test-standard-requires
 test-standard-requires c κs =
     let r = c .before .before .before in
     let s = r .before .before in
-    (s .pre .0 .chained, ((r .standard-record .ensures, s .pre .0 .lasts (r .standard-record .result .recipe) (low r)), s .pre .1 .0))
+    (s .pre .0 .chained, ((r .standard-within .ensures, s .pre .0 .lasts (r .standard-within .result .recipe) (low r)), s .pre .1 .0))
 
 returns-2 : tie.Need-returns-2
 returns-2 c = record { tested = c .before .before .test-standard .ensures; listing = λ e. absurd (refused-not (sym (c .enum-told2 .given .1) ∙ e)) }

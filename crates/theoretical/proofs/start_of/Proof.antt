@@ -1,18 +1,16 @@
--- `theoretical::start_of` meets its contract: a link is one more than an index.
+-- `theoretical::start_of` meets its contract: behind a start stand the 27 bits of the theoretical time.
 -- Assumes nothing.
 use borrow.Author.Needs.{needs}
-use mathlib.Core.Path.{_∙_, ap}
-use Prim.Native.Nat.{ℕ, pred, _-_}
-use native.Mathlib.Numerals.{sub-one}
+use Prim.Native.Nat.{pred}
 use native.Mathlib.Omega.{arith}
-use lib.ListN.{getD}
+use Rattle.theoretical.proofs.Listings.{time-low}
 use Rattle.theoretical.proofs.start_of.Statement.{statement}
 use Rattle.theoretical.proofs.start_of.Tie as tie
 
 returns : tie.Need-returns
 returns c =
-    let a = c .before .args in
-    ap (λ (i : ℕ). getD (a .starts .now) i 0) (sub-one (a .link)) ∙ c .before .pre .0 .starts (pred (a .link)) (omega arith)
+    let a = c .before .before .args in
+    omega (arith, c .entry-at .ensures, time-low (a .log .now) (a .h) (pred (a .link)))
 
 pub start-of-spec : {M : Type 1} → statement M
-start-of-spec = tie.close (tie.spec (λ c. search needs) (λ c. search needs) (λ c. search needs) returns)
+start-of-spec = tie.close (tie.spec (λ c κs. search needs) returns)

@@ -2,6 +2,7 @@
 -- Assumes nothing.
 use borrow.Author.Needs.{needs}
 use mathlib.Core.Path.{_≡_, sym, _∙_}
+use native.Mathlib.Omega.{arith}
 use Rattle.records.specs.Log.{decode}
 use Rattle.rules.specs.declared.Verdict.the-variants.{Accepted}
 use Rattle.rules.specs.Verdict.{headerGrounds}
@@ -24,7 +25,8 @@ tally-states-requires c κs =
     let f = c .before .before in
     let s = f .before .before .before .before .before in
     let h = f .before .before .before .read-header in
-    (counted (s .args .log .now) (h .result) (h .ensures) (header f) .modules .1, (s .pre .0, s .pre .1))
+    let n = counted (s .args .log .now) (h .result) (h .ensures) (header f) in
+    ((n .modules .1, omega (arith, n .whole)), (s .pre .0, s .pre .1))
 
 returns-2 : tie.Need-returns-2
 returns-2 c =
@@ -39,8 +41,8 @@ credit-units-requires c κs =
     let f = c .before .before .before .before .before .before .before in
     let s = f .before .before .before .before .before in
     let h = f .before .before .before .read-header in
-    let n = counted (s .args .log .now) (h .result) (h .ensures) (header f) .counts in
-    ((n .1, n .2), (s .pre .2, s .pre .3))
+    let n = counted (s .args .log .now) (h .result) (h .ensures) (header f) in
+    ((n .counts .1, n .counts .2, omega (arith, n .whole)), (s .pre .2, s .pre .3))
 
 returns-3 : tie.Need-returns-3
 returns-3 c =
