@@ -3,14 +3,13 @@
 use mathlib.Core.Path.{_≡_, refl, sym, ap, _∙_}
 use mathlib.Core.List.{List, [], _∷_, _++_, append-assoc, append-nil}
 use Prim.Native.Nat.{ℕ, zero, suc, _+_, _*_, _≤_, _<_}
-use native.Mathlib.Nat.{add-zero, zero-add, mul-zero, mul-suc, add-assoc, add-comm}
-use native.Mathlib.Numerals.{add-one}
+use native.Mathlib.Nat.{mul-zero, mul-suc, add-assoc, add-comm}
 use native.Mathlib.Omega.{arith}
 use lib.ListN.{length, getD, take, drop, length-append, length-drop, take-append-drop}
-use lib.Seq.{take-at, drop-at, drop-append-add, drop-drop, take-add, take-all, take-append-le, length-take-le}
+use lib.Seq.{take-at, drop-at, drop-append-add, drop-drop, take-add, take-all}
 use Rattle.bits.specs.Put.{Slot, packed, Fit}
 use Rattle.bits.proofs.Puts.{length-packed}
-use Rattle.records.specs.Fields.{headerFrom, stateFrom, standardFrom, unitFrom}
+use Rattle.records.specs.Fields.{stateFrom, standardFrom, unitFrom}
 use Rattle.records.specs.Log.{Log, headerOf, stateAt, standardAt, unitAt, upTo, decode}
 use Rattle.records.specs.Encode.{headerSlots, stateSlots, standardSlots, unitSlots, headerBytes, stateBytes, standardBytes, unitBytes, joined, headerFor, encode, AllFit, LogFits}
 use Rattle.records.specs.declared.Header.{Header}

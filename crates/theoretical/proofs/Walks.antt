@@ -12,7 +12,7 @@ use Rattle.records.specs.Log.{upTo}
 use Rattle.rules.specs.Theoretical.{inForce}
 use Rattle.rules.specs.RecordGrounds.{isAmong}
 use Rattle.theoretical.specs.Chains.{lastOf, Rising, Proper, entryOf, entryIn}
-use Rattle.theoretical.proofs.ChainLaws.{laterOf, Walk, walk-start, walk-recipe, walk-next, force-skip, force-passed, force-counted, force-newest, among-skip, among-here, among-passed, later-assoc}
+use Rattle.theoretical.proofs.ChainLaws.{laterOf, Walk, walk-start, walk-next, force-skip, force-passed, force-counted, force-newest, among-skip, among-here, among-passed, later-assoc}
 
 -- ---- for a recipe and a start
 

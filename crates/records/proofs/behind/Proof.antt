@@ -4,7 +4,7 @@ use borrow.Author.Needs.{needs}
 use mathlib.Core.Path.{_≡_, sym, _∙_}
 use mathlib.Core.List.{List}
 use Prim.Native.Nat.{ℕ, _*_, _/_, _-_, _≤_, _<_}
-use native.Mathlib.Nat.{le-div-iff-mul-le, le-of-lt, lt-of-not-le, sub-self}
+use native.Mathlib.Nat.{le-div-iff-mul-le, le-of-lt, lt-of-not-le}
 use native.Mathlib.Omega.{arith}
 use lib.ListN.{length, take, drop, length-drop, drop-of-length-le}
 use lib.Seq.{take-all}

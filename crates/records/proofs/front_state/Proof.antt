@@ -1,6 +1,5 @@
 -- `records::front_state` meets its contract: the record is the 48 bits read. Assumes nothing.
 use borrow.Author.Needs.{needs}
-use mathlib.Core.Path.{refl}
 use Rattle.records.proofs.front_state.Statement.{statement}
 use Rattle.records.proofs.front_state.Tie as tie
 

@@ -1,7 +1,6 @@
 -- `records::state_in` meets its contract: each field is cut out of the word. Assumes nothing.
 use native.Mathlib.Omega.{arith}
 use Prim.Native.Nat.{_+_}
-use borrow.Author.Needs.{needs}
 use Rattle.bits.proofs.Fields.{cut-at, tail-at}
 use Rattle.records.specs.Fields.{stateFrom}
 use Rattle.records.proofs.state_in.Statement.{statement}

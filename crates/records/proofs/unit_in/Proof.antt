@@ -1,5 +1,4 @@
 -- `records::unit_in` meets its contract: each field is cut out of the words. Assumes nothing.
-use borrow.Author.Needs.{needs}
 use native.Mathlib.Omega.{arith}
 use Prim.Native.Nat.{_+_}
 use Rattle.bits.proofs.Fields.{cut-at, tail-at}

@@ -2,7 +2,7 @@
 -- Assumes nothing.
 use borrow.Author.Needs.{needs}
 use native.Mathlib.Omega.{arith}
-use mathlib.Core.Path.{_≡_, refl, sym, ap, _∙_}
+use mathlib.Core.Path.{refl, sym, ap, _∙_}
 use Rattle.records.specs.Log.{upTo, standardAt, unitAt}
 use Rattle.rules.specs.declared.Verdict.{Verdict}
 use Rattle.rules.specs.Grounds.{_then_}

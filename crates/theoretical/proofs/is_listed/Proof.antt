@@ -1,8 +1,7 @@
 -- `theoretical::is_listed` meets its contract: while the walk goes on, what is asked of all the standards is asked of those up to the link.
 -- Assumes nothing.
-use borrow.Author.Needs.{needs}
-use mathlib.Core.Path.{_≡_, sym, _∙_}
-use Prim.Native.Nat.{_≤_, _<_}
+use mathlib.Core.Path.{sym, _∙_}
+use Prim.Native.Nat.{_<_}
 use native.Mathlib.Omega.{arith}
 use Rattle.records.specs.Log.{standardAt}
 use Rattle.theoretical.proofs.Walks.{Looking, looking-start, looking-found, looking-next, looking-end}

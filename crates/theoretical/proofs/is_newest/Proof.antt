@@ -1,7 +1,6 @@
 -- `theoretical::is_newest` meets its contract: the link leads to the last standard of the recipe.
 -- Assumes nothing.
 use borrow.Author.Needs.{needs}
-use native.Mathlib.Omega.{arith}
 use borrow.Author.Tests.{ltb-true}
 use Rattle.theoretical.proofs.is_newest.Statement.{statement}
 use Rattle.theoretical.proofs.is_newest.Tie as tie

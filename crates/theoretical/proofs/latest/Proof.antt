@@ -2,7 +2,7 @@
 -- Assumes nothing.
 use borrow.Author.Needs.{needs}
 use mathlib.Core.Path.{_≡_}
-use Prim.Native.Nat.{_+_, _*_, _^_, _≤_, _<_}
+use Prim.Native.Nat.{_+_, _*_, _^_, _<_}
 use native.Mathlib.Omega.{arith}
 use Rattle.records.specs.Log.{standardAt}
 use Rattle.theoretical.proofs.Walks.{Finding, finding-start, finding-next, finding-end}

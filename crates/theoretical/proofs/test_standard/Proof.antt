@@ -1,8 +1,6 @@
 -- `theoretical::test_standard` meets its contract: each test that is met, or passed, decides the ground's own test.
 -- Assumes nothing.
 use borrow.Author.Needs.{needs}
-use Prim.Native.Nat.{_≤_}
-use native.Mathlib.Omega.{arith}
 use Rattle.records.specs.Log.{standardAt}
 use Rattle.theoretical.proofs.ChainLaws.{last-le}
 use Rattle.theoretical.proofs.Listings.{test-outside, test-no-time, test-twice, test-newest, test-passed}

@@ -1,7 +1,6 @@
 -- `theoretical::time_in_force` meets its contract: the time is the last 27 bits of the entry.
 -- Assumes nothing.
 use borrow.Author.Needs.{needs}
-use mathlib.Core.Path.{_∙_}
 use Rattle.records.specs.Log.{standardAt}
 use Rattle.theoretical.proofs.Listings.{time-of}
 use Rattle.theoretical.proofs.time_in_force.Statement.{statement}
