@@ -51,7 +51,7 @@ fn swapped(n: u64) -> u64
 
 // The 64 bits from byte i on, all of them in the slice. Joined first byte first they would be one load only for a caller that needs all eight: the
 // compiler drops the bytes that fields cut out of the word leave out, and then loads one by one what is left.
-pub fn word_within(s: &[u8], i: usize) -> u64
+fn word_within(s: &[u8], i: usize) -> u64
     requires { ⌜ i + 8 ≤ length (now s) ⌝ }
     ensures { λ r. ⌜ r ≡ field (now (s .entry)) (8 * i) 64 ⌝ }
 {
@@ -116,6 +116,14 @@ pub fn field_at(s: &[u8], at: usize, width: usize) -> u64
     part(word_at(s, at / 8), at % 8, width_read(width))
 }
 
+// The 64 bits from bit `at` on, which is a byte's first, all of them in the slice.
+pub fn word_from(s: &[u8], at: usize) -> u64
+    requires { ⌜ (at % 8 ≡ 0) × (at + 64 ≤ 8 * length (now s)) ⌝ }
+    ensures { λ r. ⌜ r ≡ field (now (s .entry)) at 64 ⌝ }
+{
+    word_within(s, at / 8)
+}
+
 // A lent slice and a position in it, in bits.
 pub struct BitReader<'a> {
     pub src: &'a [u8],
@@ -136,6 +144,14 @@ pub fn take<'a>(r: BitReader<'a>, width: usize) -> u64
     field_at(r.src, r.at, width)
 }
 
+// The next 64 bits, from a byte's first on and all in the slice.
+pub fn take_word<'a>(r: BitReader<'a>) -> u64
+    requires { ⌜ (r .at % 8 ≡ 0) × (r .at + 64 ≤ 8 * length (now (r .src))) ⌝ }
+    ensures { λ n. ⌜ n ≡ field (now (r .entry .src)) (r .entry .at) 64 ⌝ }
+{
+    word_from(r.src, r.at)
+}
+
 // The reader moved on by `width` bits, where that position is a usize.
 pub fn past<'a>(r: BitReader<'a>, width: usize) -> BitReader<'a>
     requires { ⌜ r .at + width < 2 ^ 64 ⌝ }
@@ -152,4 +168,12 @@ pub fn read_field(log: &[u8], at: usize, width: usize) -> u64
     ensures { λ r. ⌜ r ≡ field (now (log .entry)) at (widthRead width) ⌝ }
 {
     take(reader_at(log, at), width)
+}
+
+// A word read through a reader, for the passes over the lists of a log whose length is tested.
+pub fn read_word(log: &[u8], at: usize) -> u64
+    requires { ⌜ (at % 8 ≡ 0) × (at + 64 ≤ 8 * length (now log)) ⌝ }
+    ensures { λ r. ⌜ r ≡ field (now (log .entry)) at 64 ⌝ }
+{
+    take_word(reader_at(log, at))
 }

@@ -2,11 +2,11 @@
 // for the passes over a log whose length is tested, without a test where the record is in the slice.
 ghost use mathlib.Core.Path.{_≡_};
 ghost use mathlib.Core.List.{List};
-ghost use Prim.Native.Nat.{ℕ, _+_, _*_, _<_, _≤_};
-ghost use lib.ListN.{length, drop};
+ghost use Prim.Native.Nat.{ℕ, _+_, _*_, _<_};
+ghost use lib.ListN.{drop};
 ghost use Rattle.bits.specs.Bits.{field};
 ghost use Rattle.records.specs.Fields.{headerFrom, stateFrom, standardFrom, unitFrom};
-ghost use Rattle.records.specs.Log.{headerOf, stateAt, standardAt, unitAt};
+ghost use Rattle.records.specs.Log.{Covers, headerOf, stateAt, standardAt, unitAt};
 
 // The period in ms, the number of modules, and how many records each list has.
 pub struct Header {
@@ -160,30 +160,30 @@ pub fn unit_record(log: &[u8], h: Header, i: usize) -> UnitRecord
 // State record i, where all of it is in the log: the last six of eight bytes, since behind it there may be no more. The caller owes that, as it does
 // for the next two: a log whose length its header gives holds all its records, and a pass over them need not ask again at each.
 pub fn state_within(log: &[u8], i: usize) -> StateRecord
-    requires { ⌜ 10 + 6 * i + 6 ≤ length (now log) ⌝ }
+    requires { ⌜ Covers (now log) (10 + 6 * i + 6) ⌝ }
     ensures { λ r. ⌜ r ≡ stateAt (now (log .entry)) i ⌝ }
 {
-    state_in(bits::word_within(log, 8 + 6 * i))
+    state_in(bits::read_word(log, 8 * (8 + 6 * i)))
 }
 
 // Standard i of a log with this header, where all of it is in the log.
 pub fn standard_within(log: &[u8], h: Header, i: usize) -> Standard
-    requires { ⌜ 10 + 6 * h .states + 9 * i + 9 ≤ length (now log) ⌝ }
+    requires { ⌜ Covers (now log) (10 + 6 * h .states + 9 * i + 9) ⌝ }
     ensures { λ r. ⌜ r ≡ standardAt (now (log .entry)) h i ⌝ }
 {
     let at = 10 + 6 * h.states + 9 * i;
-    let first = bits::word_within(log, at) / 0x8_0000;
-    let second = bits::word_within(log, at + 1);
+    let first = bits::read_word(log, 8 * at) / 0x8_0000;
+    let second = bits::read_word(log, 8 * (at + 1));
     standard_in(first, second)
 }
 
 // Unit record i of a log with this header, where all of it is in the log.
 pub fn unit_within(log: &[u8], h: Header, i: usize) -> UnitRecord
-    requires { ⌜ 10 + 6 * h .states + 9 * h .standards + 11 * i + 11 ≤ length (now log) ⌝ }
+    requires { ⌜ Covers (now log) (10 + 6 * h .states + 9 * h .standards + 11 * i + 11) ⌝ }
     ensures { λ r. ⌜ r ≡ unitAt (now (log .entry)) h i ⌝ }
 {
     let at = 10 + 6 * h.states + 9 * h.standards + 11 * i;
-    let first = bits::word_within(log, at) / 0x2000;
-    let second = bits::word_within(log, at + 3);
+    let first = bits::read_word(log, 8 * at) / 0x2000;
+    let second = bits::read_word(log, 8 * (at + 3));
     unit_in(first, second)
 }

@@ -3,9 +3,9 @@ ghost use mathlib.Core.Path.{_≡_};
 ghost use mathlib.Core.Bool.{true};
 ghost use mathlib.Core.List.{List};
 ghost use Prim.Native.Nat.{_+_, _*_, _^_, _<_, _≤_};
-ghost use lib.ListN.{length, getD, replicate};
+ghost use lib.ListN.{getD, replicate};
 ghost use Rattle.records.specs.declared.StateRecord.{StateRecord};
-ghost use Rattle.records.specs.Log.{stateAt, upTo};
+ghost use Rattle.records.specs.Log.{Covers, stateAt, upTo};
 ghost use Rattle.rules.specs.Grounds.{ground};
 ghost use Rattle.rules.specs.Time.{states, stateOf};
 ghost use Rattle.rules.specs.RecordGrounds.{lastTime, ownTime, stateGround};
@@ -74,7 +74,7 @@ fn add_stretch(totals: &mut [u64; 384], m: usize, state: usize, length: u64)
     totals[at] += length;
 }
 
-// Module m's uptime: productive, standby and engineering.
+// Module m's uptime: its time in the states 0, 1 and 2, which are productive, standby and engineering.
 fn uptime_of(totals: &[u64; 384], m: usize) -> u64
     requires { ⌜ (m < 64) × (uptimeIn (now totals) m < 2 ^ 64) ⌝ }
     ensures { λ r. ⌜ r ≡ uptimeIn (now (totals .entry)) m ⌝ }
@@ -136,7 +136,7 @@ fn tally_record(
     opened: &mut [bool; 64],
 ) -> Verdict
     requires { ⌜ now table ≡ states ⌝ }
-    requires { ⌜ 10 + 6 * i + 6 ≤ length (now log) ⌝ }
+    requires { ⌜ Covers (now log) (10 + 6 * i + 6) ⌝ }
     requires { ⌜ now from ≡ fromOf (lastTime (upTo (stateAt (now log)) i)) ⌝ }
     requires { ⌜ Held (upTo (stateAt (now log)) i) (h .period) (now totals) (now latest) (now opened) ⌝ }
     ensures { λ r. ⌜ Stepped (stateAt (now (log .entry))) (h .period) (h .modules) i r (now (from .exit)) (now (totals .exit)) (now (latest .exit)) (now (opened .exit)) ⌝ }
@@ -170,7 +170,7 @@ fn tally_records(
     opened: &mut [bool; 64],
 ) -> Verdict
     requires { ⌜ now table ≡ states ⌝ }
-    requires { ⌜ 10 + 6 * h .states ≤ length (now log) ⌝ }
+    requires { ⌜ Covers (now log) (10 + 6 * h .states) ⌝ }
     requires { ⌜ Held (upTo (stateAt (now log)) 0) (h .period) (now totals) (now latest) (now opened) ⌝ }
     ensures { λ r. ⌜ Scanned (stateAt (now (log .entry))) (h .period) (h .modules) (h .states) r (now (totals .exit)) (now (latest .exit)) (now (opened .exit)) ⌝ }
 {
@@ -193,7 +193,7 @@ pub fn tally_states(
     totals: &mut [u64; 384],
     uptime: &mut [u64; 64],
 ) -> Verdict
-    requires { ⌜ (h .modules ≤ 64) × (10 + 6 * h .states ≤ length (now log)) ⌝ }
+    requires { ⌜ (h .modules ≤ 64) × Covers (now log) (10 + 6 * h .states) ⌝ }
     requires { ⌜ (now totals ≡ replicate 384 0) × (now uptime ≡ replicate 64 0) ⌝ }
     ensures { λ r. ⌜ Tallied (upTo (stateAt (now (log .entry))) (h .states)) (h .period) (h .modules) r (now (totals .exit)) (now (uptime .exit)) ⌝ }
 {

@@ -1,13 +1,15 @@
 -- The unit records tested and credited, one by one.
 -- Assumes nothing.
 use mathlib.Core.Path.{_≡_, refl, sym, ap, _∙_}
-use mathlib.Core.Bool.{Bool, false}
+use mathlib.Core.Bool.{Bool, true, false, not, cond}
 use mathlib.Core.Option.{Option, none, some}
 use mathlib.Core.List.{List, [], _∷_, _++_}
-use Prim.Native.Nat.{ℕ, zero, _+_, _*_, _^_, _≤_, _<_}
-use native.Mathlib.Nat.{mul-le-mul, add-assoc}
+use Prim.Native.Nat.{ℕ, zero, suc, _+_, _*_, _^_, _≤_, _<_}
+use native.Mathlib.Nat.{mul-le-mul, add-assoc, le-trans, le-pred-of-lt}
+use native.Mathlib.Numerals.{add-one}
 use native.Mathlib.Decide.{ℕ-discrete}
 use native.Mathlib.Omega.{arith}
+use lib.Dec.{lit≤}
 use lib.ListN.{length, getD, set, replicate, length-set, length-replicate, getD-replicate}
 use lib.Seq.{getD-set-same, getD-set-other}
 use borrow.Author.Tests.{eq-eqb, ne-eqb}
@@ -22,7 +24,7 @@ use Rattle.rules.specs.Grounds.{ground, _then_, firstOf}
 use Rattle.rules.specs.Theoretical.{inForce, timeOf, credit, theoreticalTime}
 use Rattle.rules.specs.RecordGrounds.{isNone, unitGround, unitGrounds}
 use Rattle.rules.proofs.FirstGround.{then-assoc, refused-not, first-none, first-more, first-stop, turn-range}
-use Rattle.theoretical.specs.Credits.{ownGrounds, Summed, Unit, AllUnits}
+use Rattle.theoretical.specs.Credits.{Credited, ownGrounds, Summed, Unit, AllUnits}
 
 -- one unit record's credit is below 2 ^ 43
 pub credit-low : (units theoretical : ℕ) → units < 65536 → theoretical < 134217728 → units * theoretical < 2 ^ 43
@@ -36,30 +38,30 @@ module _ (f : UnitRecord → ℕ) (ss : List Standard) where
   total-more [] u m = omega arith
   total-more (v ∷ us) u m = rw (total-more us u m) (sym (add-assoc (credit f ss m v) (theoreticalTime f ss us m) (credit f ss m u)))
 
-  credit-own : (u : UnitRecord) (t m : ℕ) → u .«module» ≡ m → t ≡ timeOf (inForce ss (u .recipe) (u .time)) → credit f ss m u ≡ f u * t
+  credit-own : (u : UnitRecord) (s : Standard) (m : ℕ) → u .«module» ≡ m → inForce ss (u .recipe) (u .time) ≡ some s → credit f ss m u ≡ f u * s .theoretical
   unfolding credit
-  credit-own u t m e i = rw (eq-eqb (u .«module») m e, ← i)
+  credit-own u s m e i = rw (eq-eqb (u .«module») m e, i)
 
   credit-other : (u : UnitRecord) (m : ℕ) → (u .«module» ≡ m → ⊥) → credit f ss m u ≡ 0
   unfolding credit
   credit-other u m ne = rw (ne-eqb (u .«module») m ne)
 
-  module _ (us : List UnitRecord) (u : UnitRecord) (t : ℕ) (A : List ℕ) (len : length A ≡ 64) (low : u .«module» < 64) (found : t ≡ timeOf (inForce ss (u .recipe) (u .time))) where
+  module _ (us : List UnitRecord) (u : UnitRecord) (s : Standard) (A : List ℕ) (len : length A ≡ 64) (low : u .«module» < 64) (found : inForce ss (u .recipe) (u .time) ≡ some s) where
     pub sum-more : ((m : ℕ) → m < 64 → getD A m 0 ≡ theoreticalTime f ss us m)
-        → (m : ℕ) → m < 64 → getD (set A (u .«module») (getD A (u .«module») 0 + f u * t)) m 0 ≡ theoreticalTime f ss (us ++ (u ∷ [])) m
+        → (m : ℕ) → m < 64 → getD (set A (u .«module») (getD A (u .«module») 0 + f u * s .theoretical)) m 0 ≡ theoreticalTime f ss (us ++ (u ∷ [])) m
     sum-more h m l =
         rw (total-more us u m)
         (elim (ℕ-discrete (u .«module») m) [
-          | yes q ↦ rw (credit-own u t m q found, ← q) (getD-set-same A (u .«module») _ 0 (omega arith) ∙ ap (λ (x : ℕ). x + f u * t) (h (u .«module») low))
+          | yes q ↦ rw (credit-own u s m q found, ← q) (getD-set-same A (u .«module») _ 0 (omega arith) ∙ ap (λ (x : ℕ). x + f u * s .theoretical) (h (u .«module») low))
           | no q ↦ rw (credit-other u m q) (getD-set-other A (u .«module») m _ 0 (λ e. q (sym e)) ∙ h m l ∙ omega arith)
         ])
 
-    pub low-more : (i : ℕ) → f u < 65536 → t < 134217728 → ((m : ℕ) → m < 64 → getD A m 0 ≤ i * 2 ^ 43)
-        → (m : ℕ) → m < 64 → getD (set A (u .«module») (getD A (u .«module») 0 + f u * t)) m 0 ≤ (i + 1) * 2 ^ 43
+    pub low-more : (i : ℕ) → f u < 65536 → s .theoretical < 134217728 → ((m : ℕ) → m < 64 → getD A m 0 ≤ i * 2 ^ 43)
+        → (m : ℕ) → m < 64 → getD (set A (u .«module») (getD A (u .«module») 0 + f u * s .theoretical)) m 0 ≤ (i + 1) * 2 ^ 43
     low-more i few short h m l =
         elim (ℕ-discrete (u .«module») m) [
-          | yes q ↦ rw (← q, getD-set-same A (u .«module») (getD A (u .«module») 0 + f u * t) 0 (omega arith)) (omega (arith, h (u .«module») low, credit-low (f u) t few short))
-          | no q ↦ rw (getD-set-other A (u .«module») m (getD A (u .«module») 0 + f u * t) 0 (λ e. q (sym e))) (omega (arith, h m l))
+          | yes q ↦ rw (← q, getD-set-same A (u .«module») (getD A (u .«module») 0 + f u * s .theoretical) 0 (omega arith)) (omega (arith, h (u .«module») low, credit-low (f u) (s .theoretical) few short))
+          | no q ↦ rw (getD-set-other A (u .«module») m (getD A (u .«module») 0 + f u * s .theoretical) 0 (λ e. q (sym e))) (omega (arith, h m l))
         ]
 
 -- ---- one unit record tested
@@ -84,29 +86,25 @@ module _ (period modules : ℕ) (ss : List Standard) (at : ℕ → UnitRecord) (
   pub unit-none : v ≡ Accepted → inForce ss (u .recipe) (u .time) ≡ none → (w : Verdict) → w ≡ Refused (record { number = 15; list = 3; place = i }) → (A E : List ℕ) → Unit period modules ss at i w A E
   unit-none e h w ew A E = record { answer = ew ∙ sym (decided e none h); summed = λ f. absurd (refused-not (sym ew ∙ f)) }
 
-  pub unit-credited : v ≡ Accepted → (t : ℕ) → t ≡ timeOf (inForce ss (u .recipe) (u .time)) → (t ≡ 0 → ⊥) → u .«module» < 64 → u .actual < 65536 → u .effective < 65536 → t < 134217728
+  pub unit-credited : v ≡ Accepted → (s : Standard) → inForce ss (u .recipe) (u .time) ≡ some s → u .«module» < 64 → u .actual < 65536 → u .effective < 65536 → s .theoretical < 134217728
       → (A E : List ℕ) → Summed ss (upTo at i) i A E
-      → (A′ E′ : List ℕ) → A′ ≡ set A (u .«module») (getD A (u .«module») 0 + u .actual * t) → E′ ≡ set E (u .«module») (getD E (u .«module») 0 + u .effective * t)
+      → (A′ E′ : List ℕ) → A′ ≡ set A (u .«module») (getD A (u .«module») 0 + u .actual * s .theoretical) → E′ ≡ set E (u .«module») (getD E (u .«module») 0 + u .effective * s .theoretical)
       → Unit period modules ss at i Accepted A′ E′
-  unit-credited e t h pos low few few′ short A E sums A′ E′ ea ee =
-      record { answer = sym (decided e _ refl ∙ ap (λ (b : Bool). ground 15 3 i b) (there (inForce ss (u .recipe) (u .time)) (λ z. pos (h ∙ z)))); summed = λ f. rw (ea, ee, up-to-more at i, ← eu) more }
+  unit-credited e s h low few few′ short A E sums A′ E′ ea ee =
+      record { answer = sym (decided e (some s) h); summed = λ f. rw (ea, ee, up-to-more at i, ← eu) more }
     where
-      there : (o : Option Standard) → (timeOf o ≡ 0 → ⊥) → isNone o ≡ false
-      there none n = absurd (n refl)
-      there (some s) n = refl
-
-      more : Summed ss (upTo at i ++ (u ∷ [])) (i + 1) (set A (u .«module») (getD A (u .«module») 0 + u .actual * t)) (set E (u .«module») (getD E (u .«module») 0 + u .effective * t))
+      more : Summed ss (upTo at i ++ (u ∷ [])) (i + 1) (set A (u .«module») (getD A (u .«module») 0 + u .actual * s .theoretical)) (set E (u .«module») (getD E (u .«module») 0 + u .effective * s .theoretical))
       more =
           record {
             sized = (length-set A _ _ ∙ sums .sized .0, length-set E _ _ ∙ sums .sized .1);
             low = λ m l. (
-              low-more (λ u. u .actual) ss (upTo at i) u t A (sums .sized .0) low h i few short (λ k q. sums .low k q .0) m l,
-              low-more (λ u. u .effective) ss (upTo at i) u t E (sums .sized .1) low h i few′ short (λ k q. sums .low k q .1) m l,
+              low-more (λ u. u .actual) ss (upTo at i) u s A (sums .sized .0) low h i few short (λ k q. sums .low k q .0) m l,
+              low-more (λ u. u .effective) ss (upTo at i) u s E (sums .sized .1) low h i few′ short (λ k q. sums .low k q .1) m l,
             );
             credited =
                 record {
-                  actual = sum-more (λ u. u .actual) ss (upTo at i) u t A (sums .sized .0) low h (sums .credited .actual);
-                  effective = sum-more (λ u. u .effective) ss (upTo at i) u t E (sums .sized .1) low h (sums .credited .effective);
+                  actual = sum-more (λ u. u .actual) ss (upTo at i) u s A (sums .sized .0) low h (sums .credited .actual);
+                  effective = sum-more (λ u. u .effective) ss (upTo at i) u s E (sums .sized .1) low h (sums .credited .effective);
                 };
           }
 

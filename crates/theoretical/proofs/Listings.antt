@@ -4,7 +4,7 @@ use mathlib.Core.Path.{_≡_, refl, sym, ap, _∙_}
 use mathlib.Core.Bool.{Bool, true, false}
 use mathlib.Core.Option.{Option, none, some}
 use mathlib.Core.List.{List}
-use Prim.Native.Nat.{ℕ, zero, suc, pred, _+_, _*_, _%_, _^_, _≤_, _<_}
+use Prim.Native.Nat.{ℕ, zero, suc, pred, _+_, _*_, _/_, _%_, _^_, _≤_, _<_}
 use native.Mathlib.Numerals.{add-one}
 use native.Mathlib.Decide.{ℕ-discrete, decLt}
 use native.Mathlib.Omega.{arith}
@@ -20,12 +20,13 @@ use Rattle.rules.specs.declared.Refusal.{Refusal}
 use Rattle.rules.specs.declared.Verdict.{Verdict}
 use Rattle.rules.specs.declared.Verdict.the-variants.{Accepted, Refused}
 use Rattle.rules.specs.Grounds.{ground, firstOf}
-use Rattle.rules.specs.Theoretical.{inForce, timeOf}
+use Rattle.rules.specs.Theoretical.{inForce}
 use Rattle.rules.specs.RecordGrounds.{isAmong, standardGround, standardGrounds}
 use Rattle.rules.proofs.FirstGround.{refused-not, then-left, then-right, not-met, first-none, first-more, first-stop, first-all, turn-range}
 use Rattle.rules.proofs.InForce.{Answers, in-force}
 use Rattle.theoretical.specs.declared.Listed.{Listed}
-use Rattle.theoretical.specs.Chains.{lastOf, Rising, Proper, entryOf, entryIn}
+use Rattle.theoretical.specs.declared.Lookup.the-variants.{Found, Nothing}
+use Rattle.theoretical.specs.Chains.{lastOf, Rising, Proper, entryOf, entryIn, lookupOf}
 use Rattle.theoretical.specs.Listing.{Listing, Tested, Added, AllListed}
 use Rattle.theoretical.proofs.ChainLaws.{last-own, last-other, last-le, last-is, last-none, among-none, among-not}
 
@@ -41,33 +42,28 @@ recipe-low s h i = standard-fits s (80 + 48 * h .states + 72 * i) .0
 pub start-low : (s : List ℕ) (h : Header) (i : ℕ) → standardAt s h i .start < 2 ^ 35
 start-low s h i = standard-fits s (80 + 48 * h .states + 72 * i) .1 .0
 
--- the time in the entry of the standard in force
-pub time-of : (at : ℕ → Standard) (n recipe time : ℕ) → Proper at n → entryIn (inForce (upTo at n) recipe time) % 2 ^ 27 ≡ timeOf (inForce (upTo at n) recipe time)
-time-of at n recipe time fine = go (inForce (upTo at n) recipe time) (in-force at recipe time n)
-  where
-    go : (o : Option Standard) → Answers at n recipe time o → entryIn o % 2 ^ 27 ≡ timeOf o
-    go none a = omega arith
-    go (some s) f =
-        let short : s .theoretical < 2 ^ 27 = rw (f .same) (fine .timed (f .index) (f .listed) .1) in
-        omega arith
+-- the standard in force, by its entry, and none where that is 0
+module _ (at : ℕ → Standard) (n recipe time : ℕ) (fine : Proper at n) where
+  pub looked-up : (entry : ℕ) → entry ≡ entryIn (inForce (upTo at n) recipe time) → (entry ≡ 0 → ⊥)
+      → Found (record { recipe = recipe; start = entry / 2 ^ 27; theoretical = entry % 2 ^ 27 }) ≡ lookupOf (inForce (upTo at n) recipe time)
+  looked-up entry e some-there = go (inForce (upTo at n) recipe time) (in-force at recipe time n) e
+    where
+      go : (o : Option Standard) → Answers at n recipe time o → entry ≡ entryIn o → Found (record { recipe = recipe; start = entry / 2 ^ 27; theoretical = entry % 2 ^ 27 }) ≡ lookupOf o
+      go none a q = absurd (some-there q)
+      go (some s) f q =
+          let short : s .theoretical < 2 ^ 27 = rw (f .same) (fine .timed (f .index) (f .listed) .1) in
+          let start : entry / 2 ^ 27 ≡ s .start = omega arith in
+          let theoretical : entry % 2 ^ 27 ≡ s .theoretical = omega arith in
+          rw (start, theoretical) (ap Found (λ j. record { recipe = sym (f .own) j; start = s .start; theoretical = s .theoretical }))
 
--- it fits its field
-pub time-short : (at : ℕ → Standard) (n recipe time : ℕ) → Proper at n → timeOf (inForce (upTo at n) recipe time) < 2 ^ 27
-time-short at n recipe time fine = go (inForce (upTo at n) recipe time) (in-force at recipe time n)
-  where
-    go : (o : Option Standard) → Answers at n recipe time o → timeOf o < 2 ^ 27
-    go none a = omega arith
-    go (some s) f = rw (f .same) (fine .timed (f .index) (f .listed) .1)
-
--- there is none where it is 0
-pub time-none : (at : ℕ → Standard) (n recipe time : ℕ) → Proper at n → timeOf (inForce (upTo at n) recipe time) ≡ 0 → inForce (upTo at n) recipe time ≡ none
-time-none at n recipe time fine e = go (inForce (upTo at n) recipe time) (in-force at recipe time n) e
-  where
-    go : (o : Option Standard) → Answers at n recipe time o → timeOf o ≡ 0 → o ≡ none
-    go none a z = refl
-    go (some s) f z =
-        let pos : 0 < s .theoretical = rw (f .same) (fine .timed (f .index) (f .listed) .0) in
-        absurd (omega arith)
+  pub looked-none : (entry : ℕ) → entry ≡ entryIn (inForce (upTo at n) recipe time) → entry ≡ 0 → Nothing ≡ lookupOf (inForce (upTo at n) recipe time)
+  looked-none entry e zero-there = go (inForce (upTo at n) recipe time) (in-force at recipe time n) e
+    where
+      go : (o : Option Standard) → Answers at n recipe time o → entry ≡ entryIn o → Nothing ≡ lookupOf o
+      go none a q = refl
+      go (some s) f q =
+          let pos : 0 < s .theoretical = rw (f .same) (fine .timed (f .index) (f .listed) .0) in
+          absurd (omega arith)
 
 -- a standard that passes has a time, and its recipe and start stood nowhere before
 pub passed-time : (period : ℕ) (es : List Standard) (i : ℕ) (s : Standard) → standardGround period es i s ≡ Accepted → s .theoretical ≡ 0 → ⊥

@@ -1,4 +1,4 @@
--- The standards of one recipe as a chain from the last of them to the first, and what each is held as.
+-- The standards of one recipe as a chain from the last of them to the first, what each is held as, and what is answered of it.
 -- Definitions only.
 use Prim.Native.Nat.{ℕ, zero, suc, _+_, _*_, _^_, _<_}
 use mathlib.Core.Path.{_≡_}
@@ -6,6 +6,8 @@ use mathlib.Core.Bool.{cond}
 use mathlib.Core.Option.{Option, none, some}
 use lib.Dec.{eqb}
 use Rattle.records.specs.declared.Standard.{Standard}
+use Rattle.theoretical.specs.declared.Lookup.{Lookup}
+use Rattle.theoretical.specs.declared.Lookup.the-variants.{Found, Nothing}
 
 -- a link to the last of the first n standards that is the recipe's: one more than its index, and 0 where none is
 unfoldable pub lastOf : (ℕ → Standard) → ℕ → ℕ → ℕ
@@ -28,3 +30,8 @@ entryOf s = s .start * 2 ^ 27 + s .theoretical
 abbrev pub entryIn : Option Standard → ℕ
 entryIn none = 0
 entryIn (some s) = entryOf s
+
+-- the standard in force, or none, as the lookup answers it
+abbrev pub lookupOf : Option Standard → Lookup
+lookupOf none = Nothing
+lookupOf (some s) = Found s

@@ -2,11 +2,11 @@
 ghost use mathlib.Core.Path.{_≡_};
 ghost use mathlib.Core.Bool.{true};
 ghost use Prim.Native.Nat.{pred, _+_, _*_, _^_, _<_, _≤_};
-ghost use lib.ListN.{length, getD, set, replicate};
-ghost use Rattle.records.specs.Log.{upTo, standardAt, unitAt};
-ghost use Rattle.rules.specs.Theoretical.{inForce, timeOf};
+ghost use lib.ListN.{getD, set, replicate};
+ghost use Rattle.records.specs.Log.{Covers, upTo, standardAt, unitAt};
+ghost use Rattle.rules.specs.Theoretical.{inForce};
 ghost use Rattle.rules.specs.RecordGrounds.{isAmong, standardGround, unitGround};
-ghost use Rattle.theoretical.specs.Chains.{lastOf, Rising, Proper, entryOf, entryIn};
+ghost use Rattle.theoretical.specs.Chains.{lastOf, Rising, Proper, entryOf, entryIn, lookupOf};
 ghost use Rattle.theoretical.specs.Listing.{Chained, Listing, Tested, Added, AllListed};
 ghost use Rattle.theoretical.specs.Credits.{ownGrounds, Summed, Unit, AllUnits, Units};
 use records::Header;
@@ -14,6 +14,12 @@ use records::Standard;
 use records::UnitRecord;
 use rules::Refusal;
 use rules::Verdict;
+
+// What looking up a standard answers: the standard in force, or none.
+pub enum Lookup {
+    Found(Standard),
+    Nothing,
+}
 
 // The answer to the standards tested so far, and whether the starts of each recipe rise in list sequence.
 pub struct Listed {
@@ -199,8 +205,8 @@ fn entry_in_force(
     }
 }
 
-// The theoretical time in force for a recipe at a time, and 0 where there is none.
-fn time_in_force(
+// The standard in force for a recipe at a time, or none.
+fn look_up(
     log: &[u8],
     h: Header,
     n: usize,
@@ -210,14 +216,22 @@ fn time_in_force(
     rising: bool,
     recipe: usize,
     time: u64,
-) -> u64
+) -> Lookup
     requires { ⌜ Listing (standardAt (now log) h) n (now entries) (now links) (now last) ⌝ }
     requires { ⌜ (rising ≡ true → Rising (standardAt (now log) h) n) × Proper (standardAt (now log) h) n ⌝ }
     requires { ⌜ (recipe < 1024) × (time < 2 ^ 35) ⌝ }
-    ensures { λ r. ⌜ r ≡ timeOf (inForce (upTo (standardAt (now (log .entry)) h) n) recipe time) ⌝ }
+    ensures { λ r. ⌜ r ≡ lookupOf (inForce (upTo (standardAt (now (log .entry)) h) n) recipe time) ⌝ }
 {
     let from = last[recipe];
-    entry_in_force(log, h, n, entries, links, from, recipe, time, rising) % 0x800_0000
+    let entry = entry_in_force(log, h, n, entries, links, from, recipe, time, rising);
+    if entry == 0 {
+        return Lookup::Nothing;
+    }
+    Lookup::Found(Standard {
+        recipe,
+        start: entry / 0x800_0000,
+        theoretical: entry % 0x800_0000,
+    })
 }
 
 // Whether a start is later than that of every earlier standard of its recipe, where the starts rise.
@@ -314,7 +328,7 @@ fn list_standard(
 ) -> Listed
     requires { ⌜ Listing (standardAt (now log) h) i (now entries) (now links) (now last) ⌝ }
     requires { ⌜ (rising ≡ true → Rising (standardAt (now log) h) i) ⌝ }
-    requires { ⌜ (i < 512) × (10 + 6 * h .states + 9 * i + 9 ≤ length (now log)) ⌝ }
+    requires { ⌜ (i < 512) × Covers (now log) (10 + 6 * h .states + 9 * i + 9) ⌝ }
     ensures { λ r. ⌜ Added (h .period) (standardAt (now (log .entry)) h) i r (now (entries .exit)) (now (links .exit)) (now (last .exit)) ⌝ }
 {
     let s = records::standard_within(log, h, i);
@@ -336,7 +350,7 @@ fn list_standards(
     links: &mut [usize; 512],
     last: &mut [usize; 1024],
 ) -> Listed
-    requires { ⌜ (h .standards ≤ 512) × (10 + 6 * h .states + 9 * h .standards ≤ length (now log)) ⌝ }
+    requires { ⌜ (h .standards ≤ 512) × Covers (now log) (10 + 6 * h .states + 9 * h .standards) ⌝ }
     requires { ⌜ Listing (standardAt (now log) h) 0 (now entries) (now links) (now last) ⌝ }
     ensures { λ r. ⌜ AllListed (h .period) (standardAt (now (log .entry)) h) (h .standards) r (now (entries .exit)) (now (links .exit)) (now (last .exit)) ⌝ }
 {
@@ -398,7 +412,7 @@ fn credit_unit(
     requires { ⌜ Listing (standardAt (now log) h) (h .standards) (now entries) (now links) (now last) ⌝ }
     requires { ⌜ (rising ≡ true → Rising (standardAt (now log) h) (h .standards)) × Proper (standardAt (now log) h) (h .standards) ⌝ }
     requires { ⌜ Summed (upTo (standardAt (now log) h) (h .standards)) (upTo (unitAt (now log) h) i) i (now actual) (now effective) ⌝ }
-    requires { ⌜ (i < 2000) × (10 + 6 * h .states + 9 * h .standards + 11 * i + 11 ≤ length (now log)) ⌝ }
+    requires { ⌜ (i < 2000) × Covers (now log) (10 + 6 * h .states + 9 * h .standards + 11 * i + 11) ⌝ }
     ensures { λ r. ⌜ Unit (h .period) (h .modules) (upTo (standardAt (now (log .entry)) h) (h .standards)) (unitAt (now (log .entry)) h) i r (now (actual .exit)) (now (effective .exit)) ⌝ }
 {
     let u = records::unit_within(log, h, i);
@@ -407,13 +421,12 @@ fn credit_unit(
         return own;
     }
     let n = h.standards;
-    let theoretical = time_in_force(log, h, n, entries, links, last, rising, u.recipe, u.time);
-    if theoretical == 0 {
+    let Lookup::Found(s) = look_up(log, h, n, entries, links, last, rising, u.recipe, u.time) else {
         return refused(15, 3, i);
-    }
+    };
     let m = u.module;
-    credit(actual, m, u.actual, theoretical);
-    credit(effective, m, u.effective, theoretical);
+    credit(actual, m, u.actual, s.theoretical);
+    credit(effective, m, u.effective, s.theoretical);
     Verdict::Accepted
 }
 
@@ -431,7 +444,7 @@ fn credit_listed(
     requires { ⌜ Listing (standardAt (now log) h) (h .standards) (now entries) (now links) (now last) ⌝ }
     requires { ⌜ (rising ≡ true → Rising (standardAt (now log) h) (h .standards)) × Proper (standardAt (now log) h) (h .standards) ⌝ }
     requires { ⌜ Summed (upTo (standardAt (now log) h) (h .standards)) (upTo (unitAt (now log) h) 0) 0 (now actual) (now effective) ⌝ }
-    requires { ⌜ (h .units ≤ 2000) × (10 + 6 * h .states + 9 * h .standards + 11 * h .units ≤ length (now log)) ⌝ }
+    requires { ⌜ (h .units ≤ 2000) × Covers (now log) (10 + 6 * h .states + 9 * h .standards + 11 * h .units) ⌝ }
     ensures { λ r. ⌜ AllUnits (h .period) (h .modules) (upTo (standardAt (now (log .entry)) h) (h .standards)) (upTo (unitAt (now (log .entry)) h) (h .units)) r (now (actual .exit)) (now (effective .exit)) ⌝ }
 {
     let n = h.units;
@@ -452,7 +465,7 @@ pub fn credit_units(
     actual: &mut [u64; 64],
     effective: &mut [u64; 64],
 ) -> Verdict
-    requires { ⌜ (h .standards ≤ 512) × (h .units ≤ 2000) × (10 + 6 * h .states + 9 * h .standards + 11 * h .units ≤ length (now log)) ⌝ }
+    requires { ⌜ (h .standards ≤ 512) × (h .units ≤ 2000) × Covers (now log) (10 + 6 * h .states + 9 * h .standards + 11 * h .units) ⌝ }
     requires { ⌜ (now actual ≡ replicate 64 0) × (now effective ≡ replicate 64 0) ⌝ }
     ensures { λ r. ⌜ Units (h .period) (h .modules) (upTo (standardAt (now (log .entry)) h) (h .standards)) (upTo (unitAt (now (log .entry)) h) (h .units)) r (now (actual .exit)) (now (effective .exit)) ⌝ }
 {

@@ -12,8 +12,21 @@ returns : tie.Need-returns
 returns c =
     let a = c .before .before .before .before .before .args in
     let at = 10 + 6 * a .h .states + 9 * a .i in
-    c .standard-in .ensures (a .log .now) (8 * at) (8 * (at + 1)) 37 (rw (c .before .before .word-within .ensures) (front (a .log .now) (8 * at) 45 19)) (c .before .word-within2 .ensures) (omega arith)
+    c .standard-in .ensures (a .log .now) (8 * at) (8 * (at + 1)) 37 (rw (c .before .before .read-word .ensures) (front (a .log .now) (8 * at) 45 19)) (c .before .read-word2 .ensures) (omega arith)
     ∙ ap (standardFrom (a .log .now)) (omega arith)
 
 pub standard-within-spec : {M : Type 1} → statement M
-standard-within-spec = tie.close (tie.spec (λ c. search needs) (λ c. search needs) (λ c. search needs) (λ c. search needs) (λ c κs. search needs) (λ c. search needs) (λ c κs. search needs) (λ c κs. search needs) returns)
+standard-within-spec =
+    tie.close
+    (tie.spec
+    (λ c. search needs)
+    (λ c. search needs)
+    (λ c. search needs)
+    (λ c. search needs)
+    (λ c. search needs)
+    (λ c κs. search needs)
+    (λ c. search needs)
+    (λ c. search needs)
+    (λ c κs. search needs)
+    (λ c κs. search needs)
+    returns)

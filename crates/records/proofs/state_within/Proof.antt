@@ -10,7 +10,15 @@ use Rattle.records.proofs.state_within.Tie as tie
 returns : tie.Need-returns
 returns c =
     let a = c .before .before .before .args in
-    c .state-in .ensures (a .log .now) (8 * (8 + 6 * a .i)) 16 (c .before .word-within .ensures) ∙ ap (stateFrom (a .log .now)) (omega arith)
+    c .state-in .ensures (a .log .now) (8 * (8 + 6 * a .i)) 16 (c .before .read-word .ensures) ∙ ap (stateFrom (a .log .now)) (omega arith)
 
 pub state-within-spec : {M : Type 1} → statement M
-state-within-spec = tie.close (tie.spec (λ c. search needs) (λ c. search needs) (λ c κs. search needs) (λ c κs. search needs) returns)
+state-within-spec =
+    tie.close
+    (tie.spec
+    (λ c. search needs)
+    (λ c. search needs)
+    (λ c. search needs)
+    (λ c κs. search needs)
+    (λ c κs. search needs)
+    returns)

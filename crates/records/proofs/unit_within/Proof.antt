@@ -12,8 +12,23 @@ returns : tie.Need-returns
 returns c =
     let a = c .before .before .before .before .before .before .args in
     let at = 10 + 6 * a .h .states + 9 * a .h .standards + 11 * a .i in
-    c .unit-in .ensures (a .log .now) (8 * at) (8 * (at + 3)) 27 (rw (c .before .before .word-within .ensures) (front (a .log .now) (8 * at) 51 13)) (c .before .word-within2 .ensures) (omega arith)
+    c .unit-in .ensures (a .log .now) (8 * at) (8 * (at + 3)) 27 (rw (c .before .before .read-word .ensures) (front (a .log .now) (8 * at) 51 13)) (c .before .read-word2 .ensures) (omega arith)
     ∙ ap (unitFrom (a .log .now)) (omega arith)
 
 pub unit-within-spec : {M : Type 1} → statement M
-unit-within-spec = tie.close (tie.spec (λ c. search needs) (λ c. search needs) (λ c. search needs) (λ c. search needs) (λ c. search needs) (λ c. search needs) (λ c κs. search needs) (λ c. search needs) (λ c κs. search needs) (λ c κs. search needs) returns)
+unit-within-spec =
+    tie.close
+    (tie.spec
+    (λ c. search needs)
+    (λ c. search needs)
+    (λ c. search needs)
+    (λ c. search needs)
+    (λ c. search needs)
+    (λ c. search needs)
+    (λ c. search needs)
+    (λ c κs. search needs)
+    (λ c. search needs)
+    (λ c. search needs)
+    (λ c κs. search needs)
+    (λ c κs. search needs)
+    returns)

@@ -38,7 +38,7 @@ tally-record-requires : tie.Need-tally-record-requires Inv-loop μ-loop
 tally-record-requires c κs =
     let t = c .before .before .before .before in
     let l = t .before in
-    (l .before .before .pre .0, (omega (arith, l .before .before .pre .1 .0, t .loop-test .taken, l .loop .inv .1), (l .loop .inv .3, l .loop .inv .4)))
+    (l .before .before .pre .0, ((omega (arith, l .before .before .pre .1 .0 .0, t .loop-test .taken, l .loop .inv .1), l .before .before .pre .1 .0 .1), (l .loop .inv .3, l .loop .inv .4)))
 
 enum-known-v : tie.Need-enum-known-v Inv-loop μ-loop
 enum-known-v c = search needs

@@ -26,7 +26,7 @@ credit-unit-requires : tie.Need-credit-unit-requires Inv-loop μ-loop
 credit-unit-requires c κs =
     let s = c .before .before .before .before .before in
     let l = c .before .before .before .loop in
-    (s .pre .0, (s .pre .1 .0, (l .inv .1 .summed, (omega (arith, c .before .before .loop-test .taken, s .pre .1 .1 .1 .0), omega (arith, c .before .before .loop-test .taken, s .pre .1 .1 .1 .1)))))
+    (s .pre .0, (s .pre .1 .0, (l .inv .1 .summed, (omega (arith, c .before .before .loop-test .taken, s .pre .1 .1 .1 .0), (omega (arith, c .before .before .loop-test .taken, s .pre .1 .1 .1 .1 .0), s .pre .1 .1 .1 .1 .1)))))
 
 returns : tie.Need-returns Inv-loop μ-loop
 returns c =

@@ -16,7 +16,7 @@ use Rattle.theoretical.proofs.credit_units.Tie as tie
 list-standards-requires : tie.Need-list-standards-requires
 list-standards-requires c κs =
     let s = c .before .before .before .before in
-    ((s .pre .0 .0, omega (arith, s .pre .0 .2)), listing-none (standardAt (s .args .log .now) (s .args .h)) _ _ _ refl refl refl)
+    ((s .pre .0 .0, (omega (arith, s .pre .0 .2 .0), s .pre .0 .2 .1)), listing-none (standardAt (s .args .log .now) (s .args .h)) _ _ _ refl refl refl)
 
 returns : tie.Need-returns
 returns c =

@@ -26,7 +26,7 @@ list-standard-requires c κs =
     let t = c .before .before .before in
     let l = t .before .loop in
     let s = t .before .before .before in
-    (l .inv .1 .listing, (l .inv .1 .rising, (omega (arith, t .loop-test .taken, s .pre .0), omega (arith, t .loop-test .taken, s .pre .0 .1))))
+    (l .inv .1 .listing, (l .inv .1 .rising, (omega (arith, t .loop-test .taken, s .pre .0 .0), (omega (arith, t .loop-test .taken, s .pre .0 .1 .0), s .pre .0 .1 .1))))
 
 enum-told : tie.Need-enum-told Inv-loop μ-loop
 enum-told c = search needs

@@ -26,7 +26,7 @@ tally-states-requires c κs =
     let s = f .before .before .before .before .before in
     let h = f .before .before .before .read-header in
     let n = counted (s .args .log .now) (h .result) (h .ensures) (header f) in
-    ((n .modules .1, omega (arith, n .whole)), (s .pre .0, s .pre .1))
+    ((n .modules .1, (omega (arith, n .whole), omega (arith, n .whole, n .counts))), (s .pre .0, s .pre .1))
 
 returns-2 : tie.Need-returns-2
 returns-2 c =
@@ -42,7 +42,7 @@ credit-units-requires c κs =
     let s = f .before .before .before .before .before in
     let h = f .before .before .before .read-header in
     let n = counted (s .args .log .now) (h .result) (h .ensures) (header f) in
-    ((n .counts .1, n .counts .2, omega (arith, n .whole)), (s .pre .2, s .pre .3))
+    ((n .counts .1, n .counts .2, (omega (arith, n .whole), omega (arith, n .whole, n .counts))), (s .pre .2, s .pre .3))
 
 returns-3 : tie.Need-returns-3
 returns-3 c =
