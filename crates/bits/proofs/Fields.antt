@@ -12,7 +12,8 @@ use lib.Seq.{getD-take, getD-drop}
 use lib.Arith.{digits-lt}
 use lib.Bits.{bitAnd, and-mask}
 use lib.Pow.{pow-lt, pow-mono, pow-add, mod-pow-add, shr-shr, high, low}
-use Rattle.bits.specs.Bits.{bit, field, swappedOf, partOf}
+use Rattle.bits.specs.Bits.{bit, field}
+use Rattle.bits.specs.Words.{partOf, swappedOf}
 use Rattle.bits.specs.Put.{number}
 
 pub bit-lt : (s : List ℕ) (i : ℕ) → bit s i < 2

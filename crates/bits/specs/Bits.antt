@@ -16,13 +16,3 @@ field s i (suc w) = bit s i * 2 ^ w + field s (i + 1) w
 -- the width that is read where `w` is asked for: a field has at most 56 bits, and a greater width counts as 56
 abbrev pub widthRead : ℕ → ℕ
 widthRead w = min w 56
-
--- of a number of 64 bits, the w bits after the first a
-abbrev pub partOf : ℕ → ℕ → ℕ → ℕ
-partOf n a w = n / 2 ^ (64 - a - w) % 2 ^ w
-
--- of a number of 64 bits, the eight bytes in the opposite sequence
-abbrev pub swappedOf : ℕ → ℕ
-swappedOf n =
-    n % 256 * 2 ^ 56 + n / 2 ^ 8 % 256 * 2 ^ 48 + n / 2 ^ 16 % 256 * 2 ^ 40 + n / 2 ^ 24 % 256 * 2 ^ 32 + n / 2 ^ 32 % 256 * 2 ^ 24 + n / 2 ^ 40 % 256 * 2 ^ 16
-    + n / 2 ^ 48 % 256 * 2 ^ 8 + n / 2 ^ 56 % 256

@@ -2,7 +2,8 @@
 ghost use mathlib.Core.Path.{_≡_};
 ghost use Prim.Native.Nat.{_+_, _*_, _%_, _<_, _≤_, _^_};
 ghost use lib.ListN.{length};
-ghost use Rattle.bits.specs.Bits.{field, swappedOf, partOf, widthRead};
+ghost use Rattle.bits.specs.Bits.{field, widthRead};
+ghost use Rattle.bits.specs.Words.{partOf, swappedOf};
 
 // Eight bytes as one number, the first the least significant.
 fn little(a: u8, b: u8, c: u8, d: u8, e: u8, f: u8, g: u8, h: u8) -> u64

@@ -1,3 +1,4 @@
 pub mod Fields
 pub mod Log
 pub mod Encode
+pub mod Covers

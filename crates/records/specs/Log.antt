@@ -1,7 +1,6 @@
 -- What the bytes of a log say: a header of 10 bytes, then the state records of 6 bytes each, the standards of 9 and the unit records of 11.
 -- Definitions only.
-use Prim.Native.Nat.{ℕ, zero, suc, _+_, _*_, _^_, _≤_, _<_}
-use lib.ListN.{length}
+use Prim.Native.Nat.{ℕ, zero, suc, _+_, _*_}
 use mathlib.Core.List.{List, [], _∷_, _++_}
 use Rattle.records.specs.Fields.{headerFrom, stateFrom, standardFrom, unitFrom}
 use Rattle.records.specs.declared.Header.{Header}
@@ -16,10 +15,6 @@ pub record Log : Type 0 where
   pub states : List StateRecord
   pub standards : List Standard
   pub units : List UnitRecord
-
--- the first n bytes are there, and the place of every bit is a number of 64 bits
-abbrev pub Covers : List ℕ → ℕ → Type 0
-Covers s n = (n ≤ length s) × (length s < 2 ^ 61)
 
 abbrev pub headerOf : List ℕ → Header
 headerOf s = headerFrom s 0

@@ -6,7 +6,8 @@ ghost use Prim.Native.Nat.{ℕ, _+_, _*_, _<_};
 ghost use lib.ListN.{drop};
 ghost use Rattle.bits.specs.Bits.{field};
 ghost use Rattle.records.specs.Fields.{headerFrom, stateFrom, standardFrom, unitFrom};
-ghost use Rattle.records.specs.Log.{Covers, headerOf, stateAt, standardAt, unitAt};
+ghost use Rattle.records.specs.Log.{headerOf, stateAt, standardAt, unitAt};
+ghost use Rattle.records.specs.Covers.{Covers};
 
 // The period in ms, the number of modules, and how many records each list has.
 pub struct Header {
