@@ -1,6 +1,6 @@
 // Tests a log through all grounds and sums it on the way, into arrays that the caller lends.
 ghost use mathlib.Core.Path.{_≡_};
-ghost use mathlib.Core.Bool.{false};
+ghost use mathlib.Core.Bool.{false, _||_};
 ghost use Prim.Native.Nat.{ℕ, _+_, _*_, _<_, _≤_};
 ghost use lib.ListN.{getD, replicate};
 ghost use Rattle.records.specs.Log.{headerOf, decode};
@@ -171,21 +171,29 @@ fn is_over(n: u64) -> bool
     9007199254740991 < n
 }
 
+fn any_over(a: u64, b: u64, c: u64, d: u64, e: u64) -> bool
+    ensures { λ r. ⌜ r ≡ isOver a || (isOver b || (isOver c || (isOver d || isOver e))) ⌝ }
+{
+    is_over(a) || (is_over(b) || (is_over(c) || (is_over(d) || is_over(e))))
+}
+
 fn over_quantities(q: Quantities) -> bool
     ensures { λ r. ⌜ r ≡ anyOver q ⌝ }
 {
-    is_over(q.total)
-        || (is_over(q.uptime)
-            || (is_over(q.production) || (is_over(q.actual) || is_over(q.effective))))
+    any_over(q.total, q.uptime, q.production, q.actual, q.effective)
 }
 
 fn over_times(t: StateTimes) -> bool
     ensures { λ r. ⌜ r ≡ anyTimeOver t ⌝ }
 {
     is_over(t.productive)
-        || (is_over(t.standby)
-            || (is_over(t.engineering)
-                || (is_over(t.scheduled) || (is_over(t.unscheduled) || is_over(t.nonscheduled)))))
+        || any_over(
+            t.standby,
+            t.engineering,
+            t.scheduled,
+            t.unscheduled,
+            t.nonscheduled,
+        )
 }
 
 // The sums: 16 for each module, then 17 for the tool's.

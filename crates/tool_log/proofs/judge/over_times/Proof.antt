@@ -11,57 +11,5 @@ over-times-spec =
     (tie.spec
     (λ c κs. search needs)
     (λ c κs. search needs)
-    (λ c κs. search needs)
-    (λ c κs. search needs)
-    (λ c κs. search needs)
-    (λ c κs. search needs)
     (λ c. c .if1 .taken ∙ sym (rw (sym (c .before .is-over .ensures) ∙ c .if1 .taken) refl))
-    (λ c.
-    let p1 = c .before .before in
-    c .if2 .taken ∙ sym (rw (
-      sym (p1 .before .is-over .ensures) ∙ p1 .if1 .left,
-      sym (c .before .is-over2 .ensures) ∙ c .if2 .taken,
-    ) refl))
-    (λ c.
-    let p2 = c .before .before in
-    let p1 = p2 .before .before in
-    c .if3 .taken ∙ sym (rw (
-      sym (p1 .before .is-over .ensures) ∙ p1 .if1 .left,
-      sym (p2 .before .is-over2 .ensures) ∙ p2 .if2 .left,
-      sym (c .before .is-over3 .ensures) ∙ c .if3 .taken,
-    ) refl))
-    (λ c.
-    let p3 = c .before .before in
-    let p2 = p3 .before .before in
-    let p1 = p2 .before .before in
-    c .if4 .taken ∙ sym (rw (
-      sym (p1 .before .is-over .ensures) ∙ p1 .if1 .left,
-      sym (p2 .before .is-over2 .ensures) ∙ p2 .if2 .left,
-      sym (p3 .before .is-over3 .ensures) ∙ p3 .if3 .left,
-      sym (c .before .is-over4 .ensures) ∙ c .if4 .taken,
-    ) refl))
-    (λ c.
-    let p4 = c .before .before in
-    let p3 = p4 .before .before in
-    let p2 = p3 .before .before in
-    let p1 = p2 .before .before in
-    c .if5 .taken ∙ sym (rw (
-      sym (p1 .before .is-over .ensures) ∙ p1 .if1 .left,
-      sym (p2 .before .is-over2 .ensures) ∙ p2 .if2 .left,
-      sym (p3 .before .is-over3 .ensures) ∙ p3 .if3 .left,
-      sym (p4 .before .is-over4 .ensures) ∙ p4 .if4 .left,
-      sym (c .before .is-over5 .ensures) ∙ c .if5 .taken,
-    ) refl))
-    (λ c.
-    let p5 = c .before in
-    let p4 = p5 .before .before in
-    let p3 = p4 .before .before in
-    let p2 = p3 .before .before in
-    let p1 = p2 .before .before in
-    c .is-over6 .ensures ∙ sym (rw (
-      sym (p1 .before .is-over .ensures) ∙ p1 .if1 .left,
-      sym (p2 .before .is-over2 .ensures) ∙ p2 .if2 .left,
-      sym (p3 .before .is-over3 .ensures) ∙ p3 .if3 .left,
-      sym (p4 .before .is-over4 .ensures) ∙ p4 .if4 .left,
-      sym (p5 .before .is-over5 .ensures) ∙ p5 .if5 .left,
-    ) refl)))
+    (λ c. c .any-over .ensures ∙ sym (rw (sym (c .before .before .is-over .ensures) ∙ c .before .if1 .left) refl)))

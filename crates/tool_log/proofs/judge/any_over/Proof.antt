@@ -1,12 +1,12 @@
--- `tool_log::judge::over_quantities` meets its contract: the first test that holds decides.
+-- `tool_log::judge::any_over` meets its contract: the first test that holds decides.
 -- Assumes nothing.
 use borrow.Author.Needs.{needs}
 use mathlib.Core.Path.{_≡_, refl, sym, _∙_}
-use Rattle.tool_log.proofs.judge.over_quantities.Statement.{statement}
-use Rattle.tool_log.proofs.judge.over_quantities.Tie as tie
+use Rattle.tool_log.proofs.judge.any_over.Statement.{statement}
+use Rattle.tool_log.proofs.judge.any_over.Tie as tie
 
-pub over-quantities-spec : {M : Type 1} → statement M
-over-quantities-spec =
+pub any-over-spec : {M : Type 1} → statement M
+any-over-spec =
     tie.close
     (tie.spec
     (λ c κs. search needs)
