@@ -4,6 +4,6 @@ use Prim.Native.Nat.{ℕ, _^_, _≤_, _<_}
 use mathlib.Core.List.{List}
 use lib.ListN.{length}
 
--- the first n bytes are there, and the place of every bit is a number of 64 bits
+-- the first n bytes are there, and the place of each is a number of 32 bits
 abbrev pub Covers : List ℕ → ℕ → Type 0
-Covers s n = (n ≤ length s) × (length s < 2 ^ 61)
+Covers s n = (n ≤ length s) × (length s < 2 ^ 32)

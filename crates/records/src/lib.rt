@@ -2,7 +2,7 @@
 // for the passes over a log whose length is tested, without a test where the record is in the slice.
 ghost use mathlib.Core.Path.{_≡_};
 ghost use mathlib.Core.List.{List};
-ghost use Prim.Native.Nat.{ℕ, _+_, _*_, _<_};
+ghost use Prim.Native.Nat.{ℕ, _+_, _*_, _^_, _<_};
 ghost use lib.ListN.{drop};
 ghost use Rattle.bits.specs.Bits.{field};
 ghost use Rattle.records.specs.Fields.{headerFrom, stateFrom, standardFrom, unitFrom};
@@ -167,12 +167,20 @@ pub fn state_within(log: &[u8], i: usize) -> StateRecord
     state_in(bits::read_word(log, 8 * (8 + 6 * i)))
 }
 
+// A place in bytes, as a number that the compiler sees to be below 2^32: then eight times it, divided by eight, costs nothing.
+fn place(byte: usize) -> usize
+    requires { ⌜ byte < 2 ^ 32 ⌝ }
+    ensures { λ r. ⌜ r ≡ byte ⌝ }
+{
+    byte as u32 as usize
+}
+
 // Standard i of a log with this header, where all of it is in the log.
 pub fn standard_within(log: &[u8], h: Header, i: usize) -> Standard
     requires { ⌜ Covers (now log) (10 + 6 * h .states + 9 * i + 9) ⌝ }
     ensures { λ r. ⌜ r ≡ standardAt (now (log .entry)) h i ⌝ }
 {
-    let at = 10 + 6 * h.states + 9 * i;
+    let at = place(10 + 6 * h.states + 9 * i);
     let first = bits::read_word(log, 8 * at) / 0x8_0000;
     let second = bits::read_word(log, 8 * (at + 1));
     standard_in(first, second)
@@ -183,7 +191,7 @@ pub fn unit_within(log: &[u8], h: Header, i: usize) -> UnitRecord
     requires { ⌜ Covers (now log) (10 + 6 * h .states + 9 * h .standards + 11 * i + 11) ⌝ }
     ensures { λ r. ⌜ r ≡ unitAt (now (log .entry)) h i ⌝ }
 {
-    let at = 10 + 6 * h.states + 9 * h.standards + 11 * i;
+    let at = place(10 + 6 * h.states + 9 * h.standards + 11 * i);
     let first = bits::read_word(log, 8 * at) / 0x2000;
     let second = bits::read_word(log, 8 * (at + 3));
     unit_in(first, second)

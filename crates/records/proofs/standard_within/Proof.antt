@@ -10,10 +10,11 @@ use Rattle.records.proofs.standard_within.Tie as tie
 
 returns : tie.Need-returns
 returns c =
-    let a = c .before .before .before .before .before .args in
-    let at = 10 + 6 * a .h .states + 9 * a .i in
+    let p = c .before .before .before in
+    let a = p .before .before .before .args in
+    let at = p .place .result in
     c .standard-in .ensures (a .log .now) (8 * at) (8 * (at + 1)) 37 (rw (c .before .before .read-word .ensures) (front (a .log .now) (8 * at) 45 19)) (c .before .read-word2 .ensures) (omega arith)
-    ∙ ap (standardFrom (a .log .now)) (omega arith)
+    ∙ ap (standardFrom (a .log .now)) (omega (arith, p .place .ensures))
 
 pub standard-within-spec : {M : Type 1} → statement M
 standard-within-spec =
@@ -23,6 +24,7 @@ standard-within-spec =
     (λ c. search needs)
     (λ c. search needs)
     (λ c. search needs)
+    (λ c κs. search needs)
     (λ c. search needs)
     (λ c κs. search needs)
     (λ c. search needs)

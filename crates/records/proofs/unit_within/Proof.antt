@@ -10,10 +10,11 @@ use Rattle.records.proofs.unit_within.Tie as tie
 
 returns : tie.Need-returns
 returns c =
-    let a = c .before .before .before .before .before .before .args in
-    let at = 10 + 6 * a .h .states + 9 * a .h .standards + 11 * a .i in
+    let p = c .before .before .before in
+    let a = p .before .before .before .before .args in
+    let at = p .place .result in
     c .unit-in .ensures (a .log .now) (8 * at) (8 * (at + 3)) 27 (rw (c .before .before .read-word .ensures) (front (a .log .now) (8 * at) 51 13)) (c .before .read-word2 .ensures) (omega arith)
-    ∙ ap (unitFrom (a .log .now)) (omega arith)
+    ∙ ap (unitFrom (a .log .now)) (omega (arith, p .place .ensures))
 
 pub unit-within-spec : {M : Type 1} → statement M
 unit-within-spec =
@@ -25,6 +26,7 @@ unit-within-spec =
     (λ c. search needs)
     (λ c. search needs)
     (λ c. search needs)
+    (λ c κs. search needs)
     (λ c. search needs)
     (λ c κs. search needs)
     (λ c. search needs)
