@@ -23,6 +23,10 @@ pub fn variants() -> Vec<Variant> {
             log: longest_many_recipes(),
         },
         Variant {
+            name: "longest, one recipe in any sequence",
+            log: longest_any_sequence(),
+        },
+        Variant {
             name: "typical week of three modules",
             log: typical(),
         },
@@ -95,6 +99,22 @@ fn longest_many_recipes() -> Vec<u8> {
             actual,
             rng.between(0, actual),
         );
+    }
+    draft.bytes()
+}
+
+/// 512 revisions of one recipe in any sequence, units anywhere.
+fn longest_any_sequence() -> Vec<u8> {
+    let rng = &mut Prng::new(4, 0);
+    let mut draft = longest(rng);
+    for revision in 0..MOST_STANDARDS {
+        draft.standard(7, revision * (LONGEST_PERIOD / 512), 200_000 - revision);
+    }
+    rng.shuffle(&mut draft.standards);
+    for _ in 0..MOST_UNITS {
+        let (module, time) = (rng.below(MOST_MODULES), rng.below(LONGEST_PERIOD));
+        let actual = rng.between(1, 50);
+        draft.unit(module, 7, time, actual, rng.between(0, actual));
     }
     draft.bytes()
 }

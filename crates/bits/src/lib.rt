@@ -118,7 +118,7 @@ pub fn field_at(s: &[u8], at: usize, width: usize) -> u64
 }
 
 // The 64 bits from bit `at` on, which is a byte's first, all of them in the slice.
-pub fn word_from(s: &[u8], at: usize) -> u64
+fn word_from(s: &[u8], at: usize) -> u64
     requires { ⌜ (at % 8 ≡ 0) × (at + 64 ≤ 8 * length (now s)) ⌝ }
     ensures { λ r. ⌜ r ≡ field (now (s .entry)) at 64 ⌝ }
 {
@@ -164,7 +164,7 @@ pub fn past<'a>(r: BitReader<'a>, width: usize) -> BitReader<'a>
     }
 }
 
-// A field read through a reader. Its parameters are plain: every crate above reads logs by it.
+// A field read through a reader. Its parameters are plain: the crates above read logs by it and by `read_word`.
 pub fn read_field(log: &[u8], at: usize, width: usize) -> u64
     ensures { λ r. ⌜ r ≡ field (now (log .entry)) at (widthRead width) ⌝ }
 {

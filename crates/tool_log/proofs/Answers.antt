@@ -114,6 +114,12 @@ module _ {A R : Type 0} {answered : A → R} {refused : Refusal → R} (apart : 
         refusal = λ y p. absurd (apart .never b y p);
       }
 
+  -- by an equation with another verdict and value, which are these
+  pub given-by : (w : Verdict) (b : A) (r : R) → r ≡ answerOf answered refused w b → w ≡ v → (w ≡ Accepted → b ≡ a) → (w ≡ Accepted → Promise a) → ((x : Refusal) → v ≡ Refused x → Allowed x)
+      → Given answered refused v a Promise Allowed r
+  given-by Accepted b r e q same ok known = subst (Given answered refused v a Promise Allowed) (sym e) (given-answered b (sym q) (same refl) (ok refl))
+  given-by (Refused x) b r e q same ok known = subst (Given answered refused v a Promise Allowed) (sym e) (given-refused x (sym q) (known x (sym q)))
+
 pub log-refusal : (s : List ℕ) (x : Refusal) → verdict s ≡ Refused x → OfLog s x
 log-refusal s x e = record { met = e; known = verdict-known s x e }
 

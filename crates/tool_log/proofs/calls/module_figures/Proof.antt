@@ -1,37 +1,27 @@
--- `tool_log::calls::module_figures` meets its contract: the summary's verdict decides, and its quantities are the log's.
+-- `tool_log::calls::module_figures` meets its contract: the summary's verdict decides, and the doubles are those of the log's quantities.
 -- Assumes nothing.
 use borrow.Author.Needs.{needs}
-use mathlib.Core.Path.{_≡_, sym, _∙_}
+use mathlib.Core.Path.{ap}
 use Rattle.records.specs.Log.{decode}
 use Rattle.e79.specs.Doubles.{figuresOf}
 use Rattle.e79.specs.Accuracy.{Accurate}
+use Rattle.e79.proofs.Products.{accurate}
 use Rattle.rules.specs.Quantities.{ofModule}
 use Rattle.rules.specs.Verdict.{verdictOn}
 use Rattle.tool_log.specs.Calls.{OnModule}
-use Rattle.tool_log.proofs.Answers.{figures-apart, given-refused, given-answered, module-refusal}
+use Rattle.tool_log.proofs.Answers.{figures-apart, given-by, module-refusal}
 use Rattle.tool_log.proofs.calls.module_figures.Statement.{statement}
 use Rattle.tool_log.proofs.calls.module_figures.Tie as tie
 
+figures-in-requires : tie.Need-figures-in-requires
+figures-in-requires c κs = λ e. rw (c .module-summary .ensures .quantities e) (c .module-summary .ensures .ordered e)
+
 returns : tie.Need-returns
 returns c =
-    let a = c .before .before .before .before .before .args in
-    let s = c .before .before .before .module-summary .ensures in
-    let e = sym (s .answer) ∙ c .before .verdict .given .1 in
-    given-refused figures-apart (verdictOn (a .log .now) (a .m)) (figuresOf (ofModule (decode (a .log .now)) (a .m))) (Accurate (ofModule (decode (a .log .now)) (a .m))) (OnModule (a .log .now) (a .m)) _ e (module-refusal (a .log .now) (a .m) _ e)
-
-figures-of-ordered-requires : tie.Need-figures-of-ordered-requires
-figures-of-ordered-requires c κs =
-    let s = c .before .before .before .module-summary .ensures in
-    let fine = c .before .enum-told .given .1 in
-    rw (s .quantities fine) (s .ordered fine)
-
-returns-2 : tie.Need-returns-2
-returns-2 c =
-    let a = c .before .before .before .before .before .before .args in
-    let s = c .before .before .before .before .module-summary .ensures in
-    let fine = c .before .before .enum-told .given .1 in
-    let good : Accurate (ofModule (decode (a .log .now)) (a .m)) (c .figures-of-ordered .result) = rw (s .quantities fine) at (c .figures-of-ordered .ensures) in
-    given-answered figures-apart (verdictOn (a .log .now) (a .m)) (figuresOf (ofModule (decode (a .log .now)) (a .m))) (Accurate (ofModule (decode (a .log .now)) (a .m))) (OnModule (a .log .now) (a .m)) (c .figures-of-ordered .result) (sym (s .answer) ∙ fine) (good .computed) (rw (good .computed) at good)
+    let a = c .before .before .before .args in
+    let m = c .before .module-summary in
+    let s = m .ensures in
+    given-by figures-apart (verdictOn (a .log .now) (a .m)) (figuresOf (ofModule (decode (a .log .now)) (a .m))) (Accurate (ofModule (decode (a .log .now)) (a .m))) (OnModule (a .log .now) (a .m)) (m .result .verdict) (figuresOf (m .result .quantities)) _ (c .figures-in .ensures) (s .answer) (λ e. ap figuresOf (s .quantities e)) (λ e. accurate _ (s .ordered e)) (module-refusal (a .log .now) (a .m))
 
 pub module-figures-spec : {M : Type 1} → statement M
-module-figures-spec = tie.close (tie.spec (λ c κs. search needs) (λ c. search needs) returns (λ c. search needs) figures-of-ordered-requires returns-2)
+module-figures-spec = tie.close (tie.spec (λ c κs. search needs) figures-in-requires returns)

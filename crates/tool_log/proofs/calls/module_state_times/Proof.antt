@@ -1,28 +1,21 @@
 -- `tool_log::calls::module_state_times` meets its contract: the summary's verdict decides, and its times are the log's.
 -- Assumes nothing.
 use borrow.Author.Needs.{needs}
-use mathlib.Core.Path.{_≡_, sym, _∙_}
+use mathlib.Core.Path.{_≡_}
 use Rattle.records.specs.Log.{decode}
 use Rattle.rules.specs.Quantities.{moduleTimes}
 use Rattle.rules.specs.Verdict.{verdictOn}
-use Rattle.tool_log.specs.Calls.{allTimes, OnModule}
-use Rattle.tool_log.proofs.Answers.{times-apart, given-refused, given-answered, module-refusal}
+use Rattle.tool_log.specs.Calls.{OnModule, allTimes}
+use Rattle.tool_log.proofs.Answers.{times-apart, given-by, module-refusal}
 use Rattle.tool_log.proofs.calls.module_state_times.Statement.{statement}
 use Rattle.tool_log.proofs.calls.module_state_times.Tie as tie
 
 returns : tie.Need-returns
 returns c =
-    let a = c .before .before .before .before .before .args in
-    let s = c .before .before .before .module-summary .ensures in
-    let e = sym (s .answer) ∙ c .before .verdict .given .1 in
-    given-refused times-apart (verdictOn (a .log .now) (a .m)) (moduleTimes (decode (a .log .now)) (a .m)) (λ t. allTimes t ≡ decode (a .log .now) .period) (OnModule (a .log .now) (a .m)) _ e (module-refusal (a .log .now) (a .m) _ e)
-
-returns-2 : tie.Need-returns-2
-returns-2 c =
-    let a = c .before .before .before .before .before .args in
-    let s = c .before .before .before .module-summary .ensures in
-    let fine = c .before .enum-told .given .1 in
-    given-answered times-apart (verdictOn (a .log .now) (a .m)) (moduleTimes (decode (a .log .now)) (a .m)) (λ t. allTimes t ≡ decode (a .log .now) .period) (OnModule (a .log .now) (a .m)) _ (sym (s .answer) ∙ fine) (s .times fine) (s .whole fine)
+    let a = c .before .before .before .args in
+    let m = c .before .module-summary in
+    let s = m .ensures in
+    given-by times-apart (verdictOn (a .log .now) (a .m)) (moduleTimes (decode (a .log .now)) (a .m)) (λ t. allTimes t ≡ decode (a .log .now) .period) (OnModule (a .log .now) (a .m)) (m .result .verdict) (m .result .times) _ (c .times-in .ensures) (s .answer) (s .times) (s .whole) (module-refusal (a .log .now) (a .m))
 
 pub module-state-times-spec : {M : Type 1} → statement M
-module-state-times-spec = tie.close (tie.spec (λ c κs. search needs) (λ c. search needs) returns (λ c. search needs) returns-2)
+module-state-times-spec = tie.close (tie.spec (λ c κs. search needs) (λ c κs. search needs) returns)
