@@ -89,7 +89,7 @@ credit-requires c κs =
     let a = s .args in
     let u = c .before .before .before .before .before .before .before .before .unit-within in
     let w = widths (a .log .now) (a .h) (a .i) (u .result) (u .ensures) in
-    (w .0, w .3, short-there (c .before .before), omega (arith, s .pre .1 .1 .0 .low (u .result .«module») (w .0) .0, s .pre .1 .1 .1 .0))
+    (w .0, omega (arith, w .3, w .4), short-there (c .before .before), omega (arith, s .pre .1 .1 .0 .low (u .result .«module») (w .0) .0, s .pre .1 .1 .1 .0))
 
 credit-requires-2 : tie.Need-credit-requires-2
 credit-requires-2 c κs =
@@ -97,7 +97,7 @@ credit-requires-2 c κs =
     let a = s .args in
     let u = c .before .before .before .before .before .before .before .before .before .before .unit-within in
     let w = widths (a .log .now) (a .h) (a .i) (u .result) (u .ensures) in
-    (w .0, w .4, short-there (c .before .before .before .before), omega (arith, s .pre .1 .1 .0 .low (u .result .«module») (w .0) .1, s .pre .1 .1 .1 .0))
+    (w .0, omega (arith, w .3, w .4), short-there (c .before .before .before .before), omega (arith, s .pre .1 .1 .0 .low (u .result .«module») (w .0) .1, s .pre .1 .1 .1 .0))
 
 returns-3 : tie.Need-returns-3
 returns-3 c =
