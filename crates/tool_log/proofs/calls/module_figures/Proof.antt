@@ -19,9 +19,11 @@ figures-in-requires c κs = λ e. rw (c .module-summary .ensures .quantities e) 
 returns : tie.Need-returns
 returns c =
     let a = c .before .before .before .args in
+    let q = ofModule (decode (a .log .now)) (a .m) in
     let m = c .before .module-summary in
     let s = m .ensures in
-    given-by figures-apart (verdictOn (a .log .now) (a .m)) (figuresOf (ofModule (decode (a .log .now)) (a .m))) (Accurate (ofModule (decode (a .log .now)) (a .m))) (OnModule (a .log .now) (a .m)) (m .result .verdict) (figuresOf (m .result .quantities)) _ (c .figures-in .ensures) (s .answer) (λ e. ap figuresOf (s .quantities e)) (λ e. accurate _ (s .ordered e)) (module-refusal (a .log .now) (a .m))
+    given-by figures-apart (verdictOn (a .log .now) (a .m)) (figuresOf q) (Accurate q) (OnModule (a .log .now) (a .m)) (m .result .verdict) (figuresOf (m .result .quantities)) _ (c .figures-in .ensures) (s .answer)
+    (λ e. ap figuresOf (s .quantities e)) (λ e. accurate _ (s .ordered e)) (module-refusal (a .log .now) (a .m))
 
 pub module-figures-spec : {M : Type 1} → statement M
 module-figures-spec = tie.close (tie.spec (λ c κs. search needs) figures-in-requires returns)

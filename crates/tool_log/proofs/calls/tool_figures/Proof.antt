@@ -19,9 +19,11 @@ figures-in-requires c κs = λ e. rw (c .tool-summary .ensures .quantities e) (c
 returns : tie.Need-returns
 returns c =
     let a = c .before .before .before .args in
+    let q = ofTool (decode (a .log .now)) in
     let m = c .before .tool-summary in
     let s = m .ensures in
-    given-by figures-apart (verdict (a .log .now)) (figuresOf (ofTool (decode (a .log .now)))) (Accurate (ofTool (decode (a .log .now)))) (OfLog (a .log .now)) (m .result .verdict) (figuresOf (m .result .quantities)) _ (c .figures-in .ensures) (s .answer) (λ e. ap figuresOf (s .quantities e)) (λ e. accurate _ (s .ordered e)) (log-refusal (a .log .now))
+    given-by figures-apart (verdict (a .log .now)) (figuresOf q) (Accurate q) (OfLog (a .log .now)) (m .result .verdict) (figuresOf (m .result .quantities)) _ (c .figures-in .ensures) (s .answer)
+    (λ e. ap figuresOf (s .quantities e)) (λ e. accurate _ (s .ordered e)) (log-refusal (a .log .now))
 
 pub tool-figures-spec : {M : Type 1} → statement M
 tool-figures-spec = tie.close (tie.spec (λ c κs. search needs) figures-in-requires returns)
