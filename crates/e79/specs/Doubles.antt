@@ -30,8 +30,8 @@ combined multiply (Ratio a) (Ratio o) (Ratio r) NoBase = nothing
 combined multiply (Ratio a) (Ratio o) (Ratio r) (Ratio q) = multiply a o r q
 
 -- availability by operational, then by rate, then by quality
-abbrev pub inTurn : Float → Float → Float → Float → Float
-inTurn a o r q = mul binary64 (mul binary64 (mul binary64 a o) r) q
+abbrev pub leftToRight : Float → Float → Float → Float → Float
+leftToRight a o r q = mul binary64 (mul binary64 (mul binary64 a o) r) q
 
 -- the set of doubles of a module or of the tool
 unfoldable pub figuresOf : Quantities → Figures
@@ -46,5 +46,5 @@ figuresOf q =
       rate = rate;
       quality = quality;
       oee = quotientOf (q .effective) (q .total);
-      product = combined inTurn availability operational rate quality;
+      product = combined leftToRight availability operational rate quality;
     }

@@ -8,7 +8,7 @@ pub record Ordered (q : Quantities) : Type 0 where
   pub actual-production : q .actual ≤ q .production
   pub production-uptime : q .production ≤ q .uptime
   pub uptime-total : q .uptime ≤ q .total
-  pub some : 0 < q .total
+  pub begun : 0 < q .total
   pub few : q .total < 2 ^ 53
 
 -- two of the five, the numerator and the denominator of a figure
@@ -16,7 +16,7 @@ pub record Portion (n d : ℕ) : Type 0 where
   pub part : n ≤ d
   pub few : d < 2 ^ 53
 
--- `none` where the denominator is 0, and in no other case
+-- the first where the denominator is 0, and in no other case; else the second
 unfoldable pub based : {X : Type 0} → ℕ → X → X → X
-based zero none value = none
-based (suc d) none value = value
+based zero unbased value = unbased
+based (suc d) unbased value = value

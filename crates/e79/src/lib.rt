@@ -6,7 +6,7 @@
 ghost use mathlib.Core.Path.{_≡_};
 ghost use Prim.Native.Nat.{_<_, _^_};
 ghost use Rattle.e79.specs.Quantities.{Ordered, Portion};
-ghost use Rattle.e79.specs.Doubles.{quotientOf, efficiencyOf, combined, inTurn};
+ghost use Rattle.e79.specs.Doubles.{quotientOf, efficiencyOf, combined, leftToRight};
 ghost use Rattle.e79.specs.Accuracy.{Accurate};
 ghost use Rattle.e79.specs.Printed.{roundedOf, printedOf};
 
@@ -136,7 +136,7 @@ fn product_of(
     rate: Efficiency,
     quality: Efficiency,
 ) -> f64
-    ensures { λ r. ⌜ r ≡ combined inTurn availability operational rate quality ⌝ }
+    ensures { λ r. ⌜ r ≡ combined leftToRight availability operational rate quality ⌝ }
 {
     let Efficiency::Ratio(a) = availability else {
         return 0.0;

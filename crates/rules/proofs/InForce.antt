@@ -12,21 +12,7 @@ use lib.Dec.{leb, eqb}
 use borrow.Author.Tests.{eq-eqb, ne-eqb, le-leb, lt-leb, leb-true, leb-false}
 use Rattle.records.specs.declared.Standard.{Standard}
 use Rattle.records.specs.Log.{upTo}
-use Rattle.rules.specs.Theoretical.{later, consider, inForce}
-
--- s, standard i of n, is the recipe's and starts at or before the time, and no other such standard starts later
-pub record Force (at : ℕ → Standard) (n recipe time : ℕ) (s : Standard) : Type 0 where
-  pub index : ℕ
-  pub listed : index < n
-  pub same : s ≡ at index
-  pub own : s .recipe ≡ recipe
-  pub begun : s .start ≤ time
-  pub latest : (i : ℕ) → i < n → at i .recipe ≡ recipe → at i .start ≤ time → at i .start ≤ s .start
-
--- what a lookup may answer: a standard in force, or none, where none is
-abbrev pub Answers : (ℕ → Standard) → ℕ → ℕ → ℕ → Option Standard → Type 0
-Answers at n recipe time none = (i : ℕ) → i < n → at i .recipe ≡ recipe → at i .start ≤ time → ⊥
-Answers at n recipe time (some s) = Force at n recipe time s
+use Rattle.rules.specs.Theoretical.{later, consider, inForce, Force, Answers}
 
 -- ---- one more standard
 

@@ -19,7 +19,7 @@ use Rattle.rules.specs.RecordGrounds.{lastTime, ownTime, isBefore, isNot
 use Rattle.rules.specs.Theoretical.{inForce}
 use Rattle.rules.specs.Quantities.{timeIn, actualTime, ofTool, toolTimes}
 use Rattle.rules.specs.Verdict.{badPeriod, badModules, badCounts, badLength, headerGrounds, fastGround, anyOver, anyTimeOver, sumGrounds, recordGrounds, verdict}
-use Rattle.rules.specs.Refusals.{Row, isRow, Known, ofLogs}
+use Rattle.rules.specs.Refusals.{Row, isRow, Known, logRefusals}
 
 -- what is refused, if it is, is known
 pub record AllKnown (rows : List Row) (v : Verdict) : Type 0 where
@@ -49,14 +49,14 @@ module _ (rows : List Row) where
 
 -- ---- the grounds of a log
 
-abbrev ruled : (n l p : ℕ) (t : Bool) → T (isRow ofLogs n l) → AllKnown ofLogs (ground n l p t)
-ruled = known-ground ofLogs
+abbrev ruled : (n l p : ℕ) (t : Bool) → T (isRow logRefusals n l) → AllKnown logRefusals (ground n l p t)
+ruled = known-ground logRefusals
 
 infixr 40 _and_
-_and_ : {u v : Verdict} → AllKnown ofLogs u → AllKnown ofLogs v → AllKnown ofLogs (u then v)
-_and_ {u} {v} a b = known-then ofLogs u v a b
+_and_ : {u v : Verdict} → AllKnown logRefusals u → AllKnown logRefusals v → AllKnown logRefusals (u then v)
+_and_ {u} {v} a b = known-then logRefusals u v a b
 
-known-header : (s : List ℕ) → AllKnown ofLogs (headerGrounds s)
+known-header : (s : List ℕ) → AllKnown logRefusals (headerGrounds s)
 unfolding headerGrounds
 known-header s =
     let h = headerOf s in
@@ -66,7 +66,7 @@ known-header s =
     and ruled 4 0 0 (badCounts h) tt
     and ruled 5 0 0 (badLength (length s) h) tt
 
-known-state : (period modules : ℕ) (earlier : List StateRecord) (i : ℕ) (r : StateRecord) → AllKnown ofLogs (stateGround period modules earlier i r)
+known-state : (period modules : ℕ) (earlier : List StateRecord) (i : ℕ) (r : StateRecord) → AllKnown logRefusals (stateGround period modules earlier i r)
 unfolding stateGround
 known-state period modules earlier i r =
     ruled 6 1 i (not (eqb (r .spare) 0)) tt
@@ -75,20 +75,20 @@ known-state period modules earlier i r =
     and ruled 9 1 i (leb period (r .time)) tt
     and ruled 10 1 i (isBefore (r .time) (lastTime earlier) || isNotAfter (r .time) (ownTime (r .«module») earlier)) tt
 
-known-states : (period modules : ℕ) (rs : List StateRecord) → AllKnown ofLogs (stateGrounds period modules rs)
+known-states : (period modules : ℕ) (rs : List StateRecord) → AllKnown logRefusals (stateGrounds period modules rs)
 unfolding stateGrounds openingGround
 known-states period modules rs =
-    known-turn ofLogs (stateGround period modules) [] 0 rs (known-state period modules)
-    and known-first ofLogs (openingGround rs) modules (λ m. ruled 11 0 m (not (isOpening (firstTime m rs))) tt)
+    known-turn logRefusals (stateGround period modules) [] 0 rs (known-state period modules)
+    and known-first logRefusals (openingGround rs) modules (λ m. ruled 11 0 m (not (isOpening (firstTime m rs))) tt)
 
-known-standard : (period : ℕ) (earlier : List Standard) (i : ℕ) (s : Standard) → AllKnown ofLogs (standardGround period earlier i s)
+known-standard : (period : ℕ) (earlier : List Standard) (i : ℕ) (s : Standard) → AllKnown logRefusals (standardGround period earlier i s)
 unfolding standardGround
 known-standard period earlier i s =
     ruled 9 2 i (leb period (s .start)) tt
     and ruled 12 2 i (eqb (s .theoretical) 0) tt
     and ruled 13 2 i (isAmong s earlier) tt
 
-known-unit : (period modules : ℕ) (ss : List Standard) (earlier : List UnitRecord) (i : ℕ) (u : UnitRecord) → AllKnown ofLogs (unitGround period modules ss earlier i u)
+known-unit : (period modules : ℕ) (ss : List Standard) (earlier : List UnitRecord) (i : ℕ) (u : UnitRecord) → AllKnown logRefusals (unitGround period modules ss earlier i u)
 unfolding unitGround
 known-unit period modules ss earlier i u =
     ruled 6 3 i (not (eqb (u .spare) 0)) tt
@@ -97,15 +97,15 @@ known-unit period modules ss earlier i u =
     and ruled 14 3 i (ltb (u .actual) (u .effective)) tt
     and ruled 15 3 i (isNone (inForce ss (u .recipe) (u .time))) tt
 
-known-records : (l : Log) → AllKnown ofLogs (recordGrounds l)
+known-records : (l : Log) → AllKnown logRefusals (recordGrounds l)
 unfolding recordGrounds standardGrounds unitGrounds sumGrounds fastGround
 known-records l =
     known-states (l .period) (l .modules) (l .states)
-    and known-turn ofLogs (standardGround (l .period)) [] 0 (l .standards) (known-standard (l .period))
-    and known-turn ofLogs (unitGround (l .period) (l .modules) (l .standards)) [] 0 (l .units) (known-unit (l .period) (l .modules) (l .standards))
-    and known-first ofLogs (fastGround l) (l .modules) (λ m. ruled 16 0 m (ltb (timeIn l 0 m) (actualTime l m)) tt)
+    and known-turn logRefusals (standardGround (l .period)) [] 0 (l .standards) (known-standard (l .period))
+    and known-turn logRefusals (unitGround (l .period) (l .modules) (l .standards)) [] 0 (l .units) (known-unit (l .period) (l .modules) (l .standards))
+    and known-first logRefusals (fastGround l) (l .modules) (λ m. ruled 16 0 m (ltb (timeIn l 0 m) (actualTime l m)) tt)
     and ruled 17 0 0 (anyOver (ofTool l) || anyTimeOver (toolTimes l)) tt
 
-pub verdict-known : (s : List ℕ) (x : Refusal) → verdict s ≡ Refused x → Known ofLogs x
+pub verdict-known : (s : List ℕ) (x : Refusal) → verdict s ≡ Refused x → Known logRefusals x
 unfolding verdict
 verdict-known s x e = (known-header s and known-records (decode s)) .known x e

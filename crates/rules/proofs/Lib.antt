@@ -1,3 +1,4 @@
 pub mod FirstGround
 pub mod InForce
 pub mod KnownRefusals
+pub mod Latest

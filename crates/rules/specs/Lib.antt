@@ -1,3 +1,4 @@
+pub mod Names
 pub mod Grounds
 pub mod Time
 pub mod Theoretical

@@ -4,6 +4,7 @@ use Prim.Native.Nat.{ℕ, zero, suc, _+_}
 use Rattle.records.specs.Log.{Log}
 use Rattle.e79.specs.declared.Quantities.{Quantities}
 use Rattle.rules.specs.declared.StateTimes.{StateTimes}
+use Rattle.rules.specs.Names.{productive, standby, engineering, scheduledDown, unscheduledDown, nonscheduled}
 use Rattle.rules.specs.Time.{stateTime}
 use Rattle.rules.specs.Theoretical.{theoreticalTime}
 
@@ -20,7 +21,7 @@ timeIn l k m = stateTime (l .states) (l .period) m k
 -- uptime: productive, standby and engineering
 unfoldable pub uptime : Log → ℕ → ℕ
 unfolding timeIn
-uptime l m = timeIn l 0 m + timeIn l 1 m + timeIn l 2 m
+uptime l m = timeIn l productive m + timeIn l standby m + timeIn l engineering m
 
 -- theoretical time for actual and for effective units
 unfoldable pub actualTime : Log → ℕ → ℕ
@@ -34,23 +35,27 @@ effectiveTime l m = theoreticalTime (λ u. u .effective) (l .standards) (l .unit
 abbrev pub moduleTimes : Log → ℕ → StateTimes
 moduleTimes l m =
     record {
-      productive = timeIn l 0 m;
-      standby = timeIn l 1 m;
-      engineering = timeIn l 2 m;
-      scheduled = timeIn l 3 m;
-      unscheduled = timeIn l 4 m;
-      nonscheduled = timeIn l 5 m;
+      productive = timeIn l productive m;
+      standby = timeIn l standby m;
+      engineering = timeIn l engineering m;
+      scheduled = timeIn l scheduledDown m;
+      unscheduled = timeIn l unscheduledDown m;
+      nonscheduled = timeIn l nonscheduled m;
     }
+
+-- the six state times together
+abbrev pub allTimes : StateTimes → ℕ
+allTimes t = t .productive + t .standby + t .engineering + t .scheduled + t .unscheduled + t .nonscheduled
 
 abbrev pub toolTimes : Log → StateTimes
 toolTimes l =
     record {
-      productive = sumBelow (timeIn l 0) (l .modules);
-      standby = sumBelow (timeIn l 1) (l .modules);
-      engineering = sumBelow (timeIn l 2) (l .modules);
-      scheduled = sumBelow (timeIn l 3) (l .modules);
-      unscheduled = sumBelow (timeIn l 4) (l .modules);
-      nonscheduled = sumBelow (timeIn l 5) (l .modules);
+      productive = sumBelow (timeIn l productive) (l .modules);
+      standby = sumBelow (timeIn l standby) (l .modules);
+      engineering = sumBelow (timeIn l engineering) (l .modules);
+      scheduled = sumBelow (timeIn l scheduledDown) (l .modules);
+      unscheduled = sumBelow (timeIn l unscheduledDown) (l .modules);
+      nonscheduled = sumBelow (timeIn l nonscheduled) (l .modules);
     }
 
 abbrev pub ofModule : Log → ℕ → Quantities
@@ -58,7 +63,7 @@ ofModule l m =
     record {
       total = l .period;
       uptime = uptime l m;
-      production = timeIn l 0 m;
+      production = timeIn l productive m;
       actual = actualTime l m;
       effective = effectiveTime l m;
     }
@@ -68,7 +73,7 @@ ofTool l =
     record {
       total = sumBelow (λ m. l .period) (l .modules);
       uptime = sumBelow (uptime l) (l .modules);
-      production = sumBelow (timeIn l 0) (l .modules);
+      production = sumBelow (timeIn l productive) (l .modules);
       actual = sumBelow (actualTime l) (l .modules);
       effective = sumBelow (effectiveTime l) (l .modules);
     }

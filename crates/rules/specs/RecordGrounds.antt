@@ -10,6 +10,7 @@ use Rattle.records.specs.declared.Standard.{Standard}
 use Rattle.records.specs.declared.UnitRecord.{UnitRecord}
 use Rattle.rules.specs.declared.Verdict.{Verdict}
 use Rattle.rules.specs.Grounds.{ground, _then_, firstOf, eachOf, inTurn}
+use Rattle.rules.specs.Names.{noList, ofStates, ofStandards, ofUnits}
 use Rattle.rules.specs.Theoretical.{inForce}
 
 -- ---- the state records
@@ -33,11 +34,11 @@ isNotAfter t (some u) = leb t u
 unfoldable pub stateGround : ℕ → ℕ → List StateRecord → ℕ → StateRecord → Verdict
 unfolding lastTime ownTime
 stateGround period modules earlier i r =
-    ground 6 1 i (not (eqb (r .spare) 0))
-    then ground 7 1 i (leb modules (r .«module»))
-    then ground 8 1 i (ltb 23 (r .code))
-    then ground 9 1 i (leb period (r .time))
-    then ground 10 1 i (isBefore (r .time) (lastTime earlier) || isNotAfter (r .time) (ownTime (r .«module») earlier))
+    ground 6 ofStates i (not (eqb (r .spare) 0))
+    then ground 7 ofStates i (leb modules (r .«module»))
+    then ground 8 ofStates i (ltb 23 (r .code))
+    then ground 9 ofStates i (leb period (r .time))
+    then ground 10 ofStates i (isBefore (r .time) (lastTime earlier) || isNotAfter (r .time) (ownTime (r .«module») earlier))
 
 -- the time of module m's first record
 unfoldable pub firstTime : ℕ → List StateRecord → Option ℕ
@@ -51,7 +52,7 @@ isOpening (some t) = eqb t 0
 -- no opening: module m's first record is not at time 0, or it has none
 unfoldable pub openingGround : List StateRecord → ℕ → Verdict
 unfolding firstTime
-openingGround rs m = ground 11 0 m (not (isOpening (firstTime m rs)))
+openingGround rs m = ground 11 noList m (not (isOpening (firstTime m rs)))
 
 -- the state records one by one, then the modules, the lowest first
 unfoldable pub stateGrounds : ℕ → ℕ → List StateRecord → Verdict
@@ -67,9 +68,9 @@ isAmong s (e ∷ es) = (eqb (s .recipe) (e .recipe) && eqb (s .start) (e .start)
 
 unfoldable pub standardGround : ℕ → List Standard → ℕ → Standard → Verdict
 standardGround period earlier i s =
-    ground 9 2 i (leb period (s .start))
-    then ground 12 2 i (eqb (s .theoretical) 0)
-    then ground 13 2 i (isAmong s earlier)
+    ground 9 ofStandards i (leb period (s .start))
+    then ground 12 ofStandards i (eqb (s .theoretical) 0)
+    then ground 13 ofStandards i (isAmong s earlier)
 
 unfoldable pub standardGrounds : ℕ → List Standard → Verdict
 unfolding standardGround inTurn
@@ -84,11 +85,11 @@ isNone (some s) = false
 unfoldable pub unitGround : ℕ → ℕ → List Standard → List UnitRecord → ℕ → UnitRecord → Verdict
 unfolding inForce
 unitGround period modules ss earlier i u =
-    ground 6 3 i (not (eqb (u .spare) 0))
-    then ground 7 3 i (leb modules (u .«module»))
-    then ground 9 3 i (leb period (u .time))
-    then ground 14 3 i (ltb (u .actual) (u .effective))
-    then ground 15 3 i (isNone (inForce ss (u .recipe) (u .time)))
+    ground 6 ofUnits i (not (eqb (u .spare) 0))
+    then ground 7 ofUnits i (leb modules (u .«module»))
+    then ground 9 ofUnits i (leb period (u .time))
+    then ground 14 ofUnits i (ltb (u .actual) (u .effective))
+    then ground 15 ofUnits i (isNone (inForce ss (u .recipe) (u .time)))
 
 unfoldable pub unitGrounds : ℕ → ℕ → List Standard → List UnitRecord → Verdict
 unfolding unitGround inTurn

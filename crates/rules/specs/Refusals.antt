@@ -4,7 +4,11 @@ use Prim.Native.Nat.{ℕ}
 use mathlib.Core.Bool.{Bool, true, false, _&&_, _||_}
 use mathlib.Core.List.{List, [], _∷_}
 use lib.Dec.{T, eqb}
+use mathlib.Core.Path.{_≡_}
 use Rattle.rules.specs.declared.Refusal.{Refusal}
+use Rattle.rules.specs.declared.Verdict.the-variants.{Refused}
+use Rattle.rules.specs.Names.{noList, ofStates, ofStandards, ofUnits}
+use Rattle.rules.specs.Verdict.{verdict}
 
 pub record Row : Type 0 where
   pub number : ℕ
@@ -13,14 +17,14 @@ pub record Row : Type 0 where
 abbrev pub row : ℕ → ℕ → Row
 row number list = record { number = number; list = list }
 
--- the numbers 1 to 17, each with its lists: 0 none, 1 states, 2 standards, 3 units
-abbrev pub ofLogs : List Row
-ofLogs =
-    row 1 0 ∷ row 2 0 ∷ row 3 0 ∷ row 4 0 ∷ row 5 0
-    ∷ row 6 1 ∷ row 7 1 ∷ row 8 1 ∷ row 9 1 ∷ row 10 1 ∷ row 11 0
-    ∷ row 9 2 ∷ row 12 2 ∷ row 13 2
-    ∷ row 6 3 ∷ row 7 3 ∷ row 9 3 ∷ row 14 3 ∷ row 15 3
-    ∷ row 16 0 ∷ row 17 0 ∷ []
+-- the numbers 1 to 17, each with its lists
+abbrev pub logRefusals : List Row
+logRefusals =
+    row 1 noList ∷ row 2 noList ∷ row 3 noList ∷ row 4 noList ∷ row 5 noList
+    ∷ row 6 ofStates ∷ row 7 ofStates ∷ row 8 ofStates ∷ row 9 ofStates ∷ row 10 ofStates ∷ row 11 noList
+    ∷ row 9 ofStandards ∷ row 12 ofStandards ∷ row 13 ofStandards
+    ∷ row 6 ofUnits ∷ row 7 ofUnits ∷ row 9 ofUnits ∷ row 14 ofUnits ∷ row 15 ofUnits
+    ∷ row 16 noList ∷ row 17 noList ∷ []
 
 abbrev pub isRow : List Row → ℕ → ℕ → Bool
 isRow [] n l = false
@@ -29,3 +33,8 @@ isRow (r ∷ rs) n l = (eqb n (r .number) && eqb l (r .list)) || isRow rs n l
 -- a refusal has a number and a list of the table
 abbrev pub Known : List Row → Refusal → Type 0
 Known rows x = T (isRow rows (x .number) (x .list))
+
+-- a refusal of the log of these bytes, with a number from 1 to 17 and the list that document 01 gives it
+pub record OfLog (s : List ℕ) (x : Refusal) : Type 0 where
+  pub met : verdict s ≡ Refused x
+  pub known : Known logRefusals x

@@ -1,6 +1,7 @@
 -- The standard in force, and the theoretical time of the units that a module made.
 -- Definitions only.
-use Prim.Native.Nat.{ℕ, _+_, _*_}
+use mathlib.Core.Path.{_≡_}
+use Prim.Native.Nat.{ℕ, _+_, _*_, _≤_, _<_}
 use mathlib.Core.List.{List, [], _∷_, foldl}
 use mathlib.Core.Bool.{Bool, true, false, _&&_, cond}
 use mathlib.Core.Option.{Option, none, some}
@@ -20,6 +21,21 @@ consider recipe time found s = cond (eqb (s .recipe) recipe && leb (s .start) ti
 -- the standard in force: the recipe's with the latest start at or before the time
 unfoldable pub inForce : List Standard → ℕ → ℕ → Option Standard
 inForce ss recipe time = foldl (consider recipe time) none ss
+
+-- the same in document 01's own words, of the first n standards: s, standard `index`, is the recipe's and starts at or before the time, and no other such
+-- standard starts later
+pub record Force (at : ℕ → Standard) (n recipe time : ℕ) (s : Standard) : Type 0 where
+  pub index : ℕ
+  pub listed : index < n
+  pub same : s ≡ at index
+  pub own : s .recipe ≡ recipe
+  pub begun : s .start ≤ time
+  pub latest : (i : ℕ) → i < n → at i .recipe ≡ recipe → at i .start ≤ time → at i .start ≤ s .start
+
+-- a standard in force, or none, where none is
+abbrev pub Answers : (ℕ → Standard) → ℕ → ℕ → ℕ → Option Standard → Type 0
+Answers at n recipe time none = (i : ℕ) → i < n → at i .recipe ≡ recipe → at i .start ≤ time → ⊥
+Answers at n recipe time (some s) = Force at n recipe time s
 
 abbrev pub timeOf : Option Standard → ℕ
 timeOf none = 0

@@ -1,16 +1,25 @@
 -- The state of a module at a millisecond, and how many of the period's milliseconds it is in a state.
 -- Definitions only.
-use Prim.Native.Nat.{ℕ, zero, suc, _+_}
+use mathlib.Core.Path.{_≡_}
+use Prim.Native.Nat.{ℕ, zero, suc, _+_, _≤_, _<_}
 use mathlib.Core.List.{List, [], _∷_, foldl}
 use mathlib.Core.Bool.{Bool, true, false, _&&_, cond}
 use mathlib.Core.Option.{Option, none, some}
 use lib.ListN.{getD}
 use lib.Dec.{leb, eqb}
 use Rattle.records.specs.declared.StateRecord.{StateRecord}
+use Rattle.rules.specs.Names.{productive, standby, engineering, scheduledDown, unscheduledDown, nonscheduled}
 
--- the state of each sub-state code: 0 productive, 1 standby, 2 engineering, 3 scheduled down, 4 unscheduled down, 5 nonscheduled
+-- the state of each sub-state code, 0 to 23
 abbrev pub states : List ℕ
-states = 0 ∷ 0 ∷ 0 ∷ 0 ∷ 0 ∷ 0 ∷ 1 ∷ 1 ∷ 1 ∷ 1 ∷ 1 ∷ 1 ∷ 2 ∷ 2 ∷ 3 ∷ 3 ∷ 3 ∷ 3 ∷ 4 ∷ 4 ∷ 4 ∷ 4 ∷ 5 ∷ 5 ∷ []
+states =
+    productive ∷ productive ∷ productive ∷ productive ∷ productive ∷ productive
+    ∷ standby ∷ standby ∷ standby ∷ standby ∷ standby ∷ standby
+    ∷ engineering ∷ engineering
+    ∷ scheduledDown ∷ scheduledDown ∷ scheduledDown ∷ scheduledDown
+    ∷ unscheduledDown ∷ unscheduledDown ∷ unscheduledDown ∷ unscheduledDown
+    ∷ nonscheduled ∷ nonscheduled
+    ∷ []
 
 -- the state that a code belongs to, and 6 where there is no such code
 unfoldable pub stateOf : ℕ → ℕ
@@ -23,6 +32,21 @@ keep m t found r = cond (eqb (r .«module») m && leb (r .time) t) (some (r .cod
 -- the code of module m's latest record at or before t, in records that come by time
 unfoldable pub codeAt : List StateRecord → ℕ → ℕ → Option ℕ
 codeAt rs m t = foldl (keep m t) none rs
+
+-- the same in document 01's own words, of the first n records: record `index` is module m's, at or before t, and no other such record is later; it has
+-- this code
+pub record Latest (at : ℕ → StateRecord) (n m t code : ℕ) : Type 0 where
+  pub index : ℕ
+  pub listed : index < n
+  pub own : at index .«module» ≡ m
+  pub begun : at index .time ≤ t
+  pub same : at index .code ≡ code
+  pub latest : (i : ℕ) → i < n → at i .«module» ≡ m → at i .time ≤ t → at i .time ≤ at index .time
+
+-- the code of a latest record, or none, where there is no such record
+abbrev pub CodeIs : (ℕ → StateRecord) → ℕ → ℕ → ℕ → Option ℕ → Type 0
+CodeIs at n m t none = (i : ℕ) → i < n → at i .«module» ≡ m → at i .time ≤ t → ⊥
+CodeIs at n m t (some code) = Latest at n m t code
 
 unfoldable pub isState : ℕ → Option ℕ → Bool
 unfolding stateOf

@@ -11,6 +11,7 @@ use Rattle.e79.specs.declared.Quantities.{Quantities}
 use Rattle.rules.specs.declared.StateTimes.{StateTimes}
 use Rattle.rules.specs.declared.Verdict.{Verdict}
 use Rattle.rules.specs.Grounds.{ground, _then_, firstOf}
+use Rattle.rules.specs.Names.{productive, noList}
 use Rattle.rules.specs.RecordGrounds.{stateGrounds, standardGrounds, unitGrounds}
 use Rattle.rules.specs.Quantities.{timeIn, actualTime, ofTool, toolTimes, sumBelow, uptime, effectiveTime}
 
@@ -28,22 +29,22 @@ badCounts h = ltb 6000 (h .states) || (ltb 512 (h .standards) || ltb 2000 (h .un
 
 -- the length is that of the header and its counts
 abbrev pub badLength : ℕ → Header → Bool
-badLength length h = not (eqb length (10 + 6 * h .states + 9 * h .standards + 11 * h .units))
+badLength size h = not (eqb size (10 + 6 * h .states + 9 * h .standards + 11 * h .units))
 
 -- no header, period, modules, counts, length
 unfoldable pub headerGrounds : List ℕ → Verdict
 headerGrounds s =
     let h = headerOf s in
-    ground 1 0 0 (ltb (length s) 10)
-    then ground 2 0 0 (badPeriod (h .period))
-    then ground 3 0 0 (badModules (h .modules))
-    then ground 4 0 0 (badCounts h)
-    then ground 5 0 0 (badLength (length s) h)
+    ground 1 noList 0 (ltb (length s) 10)
+    then ground 2 noList 0 (badPeriod (h .period))
+    then ground 3 noList 0 (badModules (h .modules))
+    then ground 4 noList 0 (badCounts h)
+    then ground 5 noList 0 (badLength (length s) h)
 
 -- too fast: module m's actual theoretical time above its production time
 unfoldable pub fastGround : Log → ℕ → Verdict
 unfolding timeIn actualTime
-fastGround l m = ground 16 0 m (ltb (timeIn l 0 m) (actualTime l m))
+fastGround l m = ground 16 noList m (ltb (timeIn l productive m) (actualTime l m))
 
 -- above the greatest whole number up to which a double holds every one
 abbrev pub isOver : ℕ → Bool
@@ -60,7 +61,7 @@ anyTimeOver t =
 -- the modules for 16, the lowest first, then the tool's sums for 17
 unfoldable pub sumGrounds : Log → Verdict
 unfolding fastGround firstOf sumBelow timeIn uptime actualTime effectiveTime
-sumGrounds l = firstOf (fastGround l) (l .modules) then ground 17 0 0 (anyOver (ofTool l) || anyTimeOver (toolTimes l))
+sumGrounds l = firstOf (fastGround l) (l .modules) then ground 17 noList 0 (anyOver (ofTool l) || anyTimeOver (toolTimes l))
 
 unfoldable pub recordGrounds : Log → Verdict
 unfolding stateGrounds standardGrounds unitGrounds sumGrounds
@@ -78,4 +79,4 @@ verdict s = headerGrounds s then recordGrounds (decode s)
 -- the same for a call about module m: a stray module where an accepted log has none of that number
 unfoldable pub verdictOn : List ℕ → ℕ → Verdict
 unfolding verdict decode
-verdictOn s m = verdict s then ground 7 0 m (leb (decode s .modules) m)
+verdictOn s m = verdict s then ground 7 noList m (leb (decode s .modules) m)

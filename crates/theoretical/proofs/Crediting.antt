@@ -24,7 +24,7 @@ use Rattle.rules.specs.Grounds.{ground, _then_, firstOf}
 use Rattle.rules.specs.Theoretical.{inForce, timeOf, credit, theoreticalTime}
 use Rattle.rules.specs.RecordGrounds.{isNone, unitGround, unitGrounds}
 use Rattle.rules.proofs.FirstGround.{then-assoc, refused-not, first-none, first-more, first-stop, turn-range}
-use Rattle.theoretical.specs.Credits.{Credited, ownGrounds, Summed, Unit, AllUnits}
+use Rattle.theoretical.specs.Credits.{Credited, ownGrounds, SumsSoFar, OneUnit, AllUnits}
 
 -- one unit record's credit is below 2 ^ 43
 pub credit-low : (units theoretical : ℕ) → units < 65536 → theoretical < 134217728 → units * theoretical < 2 ^ 43
@@ -73,7 +73,7 @@ own-then period modules ss us i u = sym (simp then-assoc)
 
 module _ (period modules : ℕ) (ss : List Standard) (at : ℕ → UnitRecord) (i : ℕ) (u : UnitRecord) (eu : u ≡ at i) (v : Verdict) (ev : v ≡ ownGrounds period modules i u) where
   -- refused for itself
-  pub unit-own : (x : Refusal) → v ≡ Refused x → (A E : List ℕ) → Unit period modules ss at i v A E
+  pub unit-own : (x : Refusal) → v ≡ Refused x → (A E : List ℕ) → OneUnit period modules ss at i v A E
   unit-own x e A E =
       record {
         answer = e ∙ sym (rw (← eu) (own-then period modules ss (upTo at i) i u ∙ ap (λ (w : Verdict). w then ground 15 3 i (isNone (inForce ss (u .recipe) (u .time)))) (sym ev ∙ e)));
@@ -83,17 +83,17 @@ module _ (period modules : ℕ) (ss : List Standard) (at : ℕ → UnitRecord) (
   decided : v ≡ Accepted → (o : Option Standard) → inForce ss (u .recipe) (u .time) ≡ o → unitGround period modules ss (upTo at i) i (at i) ≡ ground 15 3 i (isNone o)
   decided e o h = rw (← eu, ← h) (own-then period modules ss (upTo at i) i u ∙ ap (λ (w : Verdict). w then ground 15 3 i (isNone (inForce ss (u .recipe) (u .time)))) (sym ev ∙ e))
 
-  pub unit-none : v ≡ Accepted → inForce ss (u .recipe) (u .time) ≡ none → (w : Verdict) → w ≡ Refused (record { number = 15; list = 3; place = i }) → (A E : List ℕ) → Unit period modules ss at i w A E
+  pub unit-none : v ≡ Accepted → inForce ss (u .recipe) (u .time) ≡ none → (w : Verdict) → w ≡ Refused (record { number = 15; list = 3; place = i }) → (A E : List ℕ) → OneUnit period modules ss at i w A E
   unit-none e h w ew A E = record { answer = ew ∙ sym (decided e none h); summed = λ f. absurd (refused-not (sym ew ∙ f)) }
 
   pub unit-credited : v ≡ Accepted → (s : Standard) → inForce ss (u .recipe) (u .time) ≡ some s → u .«module» < 64 → u .actual < 65536 → u .effective < 65536 → s .theoretical < 134217728
-      → (A E : List ℕ) → Summed ss (upTo at i) i A E
+      → (A E : List ℕ) → SumsSoFar ss (upTo at i) i A E
       → (A′ E′ : List ℕ) → A′ ≡ set A (u .«module») (getD A (u .«module») 0 + u .actual * s .theoretical) → E′ ≡ set E (u .«module») (getD E (u .«module») 0 + u .effective * s .theoretical)
-      → Unit period modules ss at i Accepted A′ E′
+      → OneUnit period modules ss at i Accepted A′ E′
   unit-credited e s h low few few′ short A E sums A′ E′ ea ee =
       record { answer = sym (decided e (some s) h); summed = λ f. rw (ea, ee, up-to-more at i, ← eu) more }
     where
-      more : Summed ss (upTo at i ++ (u ∷ [])) (i + 1) (set A (u .«module») (getD A (u .«module») 0 + u .actual * s .theoretical)) (set E (u .«module») (getD E (u .«module») 0 + u .effective * s .theoretical))
+      more : SumsSoFar ss (upTo at i ++ (u ∷ [])) (i + 1) (set A (u .«module») (getD A (u .«module») 0 + u .actual * s .theoretical)) (set E (u .«module») (getD E (u .«module») 0 + u .effective * s .theoretical))
       more =
           record {
             sized = (length-set A _ _ ∙ sums .sized .0, length-set E _ _ ∙ sums .sized .1);
@@ -117,18 +117,18 @@ tests period modules ss at i = unitGround period modules ss (upTo at i) i (at i)
 pub record CreditedTo (period modules : ℕ) (ss : List Standard) (at : ℕ → UnitRecord) (n i : ℕ) (A E : List ℕ) : Type 0 where
   pub within : i ≤ n
   pub fine : firstOf (tests period modules ss at) i ≡ Accepted
-  pub summed : Summed ss (upTo at i) i A E
+  pub summed : SumsSoFar ss (upTo at i) i A E
 
 module _ (period modules : ℕ) (ss : List Standard) (at : ℕ → UnitRecord) (n : ℕ) where
-  pub credited-none : (A E : List ℕ) → Summed ss (upTo at 0) 0 A E → CreditedTo period modules ss at n 0 A E
+  pub credited-none : (A E : List ℕ) → SumsSoFar ss (upTo at 0) 0 A E → CreditedTo period modules ss at n 0 A E
   credited-none A E s = record { within = omega arith; fine = first-none (tests period modules ss at); summed = s }
 
-  pub credited-step : (i : ℕ) (A E : List ℕ) → i < n → CreditedTo period modules ss at n i A E → (v : Verdict) (A′ E′ : List ℕ) → Unit period modules ss at i v A′ E′ → v ≡ Accepted
+  pub credited-step : (i : ℕ) (A E : List ℕ) → i < n → CreditedTo period modules ss at n i A E → (v : Verdict) (A′ E′ : List ℕ) → OneUnit period modules ss at i v A′ E′ → v ≡ Accepted
       → CreditedTo period modules ss at n (i + 1) A′ E′
   credited-step i A E h c v A′ E′ u e =
       record { within = omega arith; fine = first-more (tests period modules ss at) i (c .fine) (sym (u .answer) ∙ e); summed = u .summed e }
 
-  pub credited-stop : (i : ℕ) (A E : List ℕ) → i < n → CreditedTo period modules ss at n i A E → (v : Verdict) (A′ E′ : List ℕ) → Unit period modules ss at i v A′ E′ → (x : Refusal) → v ≡ Refused x
+  pub credited-stop : (i : ℕ) (A E : List ℕ) → i < n → CreditedTo period modules ss at n i A E → (v : Verdict) (A′ E′ : List ℕ) → OneUnit period modules ss at i v A′ E′ → (x : Refusal) → v ≡ Refused x
       → AllUnits period modules ss (upTo at n) v A′ E′
   unfolding unitGrounds
   credited-stop i A E h c v A′ E′ u x e =
@@ -144,7 +144,7 @@ module _ (period modules : ℕ) (ss : List Standard) (at : ℕ → UnitRecord) (
       record { answer = sym (turn-range (unitGround period modules ss) at n ∙ rw q at (c .fine)); credited = λ e. rw q at (c .summed .credited) }
 
 -- sums that start at zero
-pub summed-none : (ss : List Standard) (at : ℕ → UnitRecord) (A E : List ℕ) → A ≡ replicate 64 0 → E ≡ replicate 64 0 → Summed ss (upTo at 0) 0 A E
+pub summed-none : (ss : List Standard) (at : ℕ → UnitRecord) (A E : List ℕ) → A ≡ replicate 64 0 → E ≡ replicate 64 0 → SumsSoFar ss (upTo at 0) 0 A E
 unfolding upTo theoreticalTime
 summed-none ss at A E ea ee =
     rw (ea, ee)

@@ -26,7 +26,7 @@ use Rattle.rules.proofs.FirstGround.{refused-not, then-left, then-right, not-me
 use Rattle.rules.proofs.InForce.{Answers, in-force}
 use Rattle.theoretical.specs.declared.Listed.{Listed}
 use Rattle.theoretical.specs.declared.Lookup.the-variants.{Found, Nothing}
-use Rattle.theoretical.specs.Chains.{lastOf, Rising, Proper, entryOf, entryIn, lookupOf}
+use Rattle.theoretical.specs.Chains.{lastOf, Rising, TimedApart, entryOf, entryIn, lookupOf}
 use Rattle.theoretical.specs.Listing.{Listing, Tested, Added, AllListed}
 use Rattle.theoretical.proofs.ChainLaws.{last-own, last-other, last-le, last-is, last-none, among-none, among-not}
 
@@ -43,7 +43,7 @@ pub start-low : (s : List ℕ) (h : Header) (i : ℕ) → standardAt s h i .star
 start-low s h i = standard-fits s (80 + 48 * h .states + 72 * i) .1 .0
 
 -- the standard in force, by its entry, and none where that is 0
-module _ (at : ℕ → Standard) (n recipe time : ℕ) (fine : Proper at n) where
+module _ (at : ℕ → Standard) (n recipe time : ℕ) (fine : TimedApart at n) where
   pub looked-up : (entry : ℕ) → entry ≡ entryIn (inForce (upTo at n) recipe time) → (entry ≡ 0 → ⊥)
       → Found (record { recipe = recipe; start = entry / 2 ^ 27; theoretical = entry % 2 ^ 27 }) ≡ lookupOf (inForce (upTo at n) recipe time)
   looked-up entry e some-there = go (inForce (upTo at n) recipe time) (in-force at recipe time n) e
@@ -77,9 +77,9 @@ passed-apart period es i s a =
     not-met 13 2 i (isAmong s es) (then-right (ground 12 2 i (eqb (s .theoretical) 0)) _ (then-right (ground 9 2 i (leb period (s .start))) _ a))
 
 -- standards that pass their tests
-pub proper-accepted : (period : ℕ) (at : ℕ → Standard) (n : ℕ) → ((i : ℕ) → at i .theoretical < 2 ^ 27) → standardGrounds period (upTo at n) ≡ Accepted → Proper at n
+pub timed-apart : (period : ℕ) (at : ℕ → Standard) (n : ℕ) → ((i : ℕ) → at i .theoretical < 2 ^ 27) → standardGrounds period (upTo at n) ≡ Accepted → TimedApart at n
 unfolding standardGrounds
-proper-accepted period at n short a =
+timed-apart period at n short a =
     let each : (i : ℕ) → i < n → standardGround period (upTo at i) i (at i) ≡ Accepted
     = first-all (λ i. standardGround period (upTo at i) i (at i)) n (sym (turn-range (standardGround period) at n) ∙ a) in
     record {

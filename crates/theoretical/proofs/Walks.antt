@@ -11,7 +11,7 @@ use Rattle.records.specs.declared.Standard.{Standard}
 use Rattle.records.specs.Log.{upTo}
 use Rattle.rules.specs.Theoretical.{inForce}
 use Rattle.rules.specs.RecordGrounds.{isAmong}
-use Rattle.theoretical.specs.Chains.{lastOf, Rising, Proper, entryOf, entryIn}
+use Rattle.theoretical.specs.Chains.{lastOf, Rising, TimedApart, entryOf, entryIn}
 use Rattle.theoretical.proofs.ChainLaws.{laterOf, Walk, walk-start, walk-next, force-skip, force-passed, force-counted, force-newest, among-skip, among-here, among-passed, later-assoc}
 
 -- ---- for a recipe and a start
@@ -139,7 +139,7 @@ module _ (at : ℕ → Standard) (n recipe time : ℕ) where
   finding-end best link e f = f .held ∙ sym (ap entryIn (searching-end at n recipe time (f .leads) link e (f .search) .answer))
 
   -- of a standard that has begun and the best behind it the one with the greater entry is the later, since no two have one start
-  module _ (fine : Proper at n) (i : ℕ) (low : i < n) (own : at i .recipe ≡ recipe) where
+  module _ (fine : TimedApart at n) (i : ℕ) (low : i < n) (own : at i .recipe ≡ recipe) where
     greater : (leads : ℕ) → leads ≤ n → ((k : ℕ) → leads ≡ suc k → (suc i ≤ k) × (at k .recipe ≡ recipe)) → entryIn (linked at leads) < entryOf (at i) → some (at i) ≡ laterOf (some (at i)) (linked at leads)
     greater zero w b h = refl
     greater (suc k) w b h = rw (le-leb (at k .start) (at i .start) (omega (arith, fine .timed i low .1)))
@@ -152,7 +152,7 @@ module _ (at : ℕ → Standard) (n recipe time : ℕ) where
         rw (lt-leb (at k .start) (at i .start) (omega (arith, ne, fine .timed k (omega arith) .1)))
 
   -- one turn, by the three cases of the comparison
-  pub finding-next : (best link next now entry : ℕ) → 0 < link → Proper at n → Finding at n recipe time best link → entry ≡ entryOf (at (pred link))
+  pub finding-next : (best link next now entry : ℕ) → 0 < link → TimedApart at n → Finding at n recipe time best link → entry ≡ entryOf (at (pred link))
       → ((time + 1) * 2 ^ 27 ≤ entry → now ≡ best) × (entry < (time + 1) * 2 ^ 27 → (best < entry → now ≡ entry) × (entry ≤ best → now ≡ best))
       → next ≡ lastOf at (at (pred link) .recipe) (pred link) → (Finding at n recipe time now next) × (next < link)
   finding-next best zero next now entry pos fine f e cases d = absurd (omega arith)

@@ -19,7 +19,7 @@ pub record Rising (at : ℕ → Standard) (n : ℕ) : Type 0 where
   pub rises : (i j : ℕ) → i < j → j < n → at i .recipe ≡ at j .recipe → at i .start < at j .start
 
 -- each standard has a time, which fits its field, and no two of a recipe have one start
-pub record Proper (at : ℕ → Standard) (n : ℕ) : Type 0 where
+pub record TimedApart (at : ℕ → Standard) (n : ℕ) : Type 0 where
   pub timed : (i : ℕ) → i < n → (0 < at i .theoretical) × (at i .theoretical < 2 ^ 27)
   pub apart : (i j : ℕ) → i < j → j < n → at i .recipe ≡ at j .recipe → at i .start ≡ at j .start → ⊥
 

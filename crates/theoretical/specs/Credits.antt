@@ -36,15 +36,15 @@ ownGrounds period modules i u =
     then ground 14 3 i (ltb (u .actual) (u .effective))
 
 -- the sums of the first i records, none above i times the greatest credit: 65,535 units of 134,217,727 ms are below 2 ^ 43
-pub record Summed (ss : List Standard) (us : List UnitRecord) (i : ℕ) (A E : List ℕ) : Type 0 where
+pub record SumsSoFar (ss : List Standard) (us : List UnitRecord) (i : ℕ) (A E : List ℕ) : Type 0 where
   pub sized : (length A ≡ 64) × (length E ≡ 64)
   pub low : (m : ℕ) → m < 64 → (getD A m 0 ≤ i * 2 ^ 43) × (getD E m 0 ≤ i * 2 ^ 43)
   pub credited : Credited ss us A E
 
 -- unit record i tested, and credited where it passes
-pub record Unit (period modules : ℕ) (ss : List Standard) (at : ℕ → UnitRecord) (i : ℕ) (r : Verdict) (A E : List ℕ) : Type 0 where
+pub record OneUnit (period modules : ℕ) (ss : List Standard) (at : ℕ → UnitRecord) (i : ℕ) (r : Verdict) (A E : List ℕ) : Type 0 where
   pub answer : r ≡ unitGround period modules ss (upTo at i) i (at i)
-  pub summed : r ≡ Accepted → Summed ss (upTo at (i + 1)) (i + 1) A E
+  pub summed : r ≡ Accepted → SumsSoFar ss (upTo at (i + 1)) (i + 1) A E
 
 -- all unit records tested and credited
 pub record AllUnits (period modules : ℕ) (ss : List Standard) (us : List UnitRecord) (r : Verdict) (A E : List ℕ) : Type 0 where

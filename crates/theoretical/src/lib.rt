@@ -7,9 +7,9 @@ ghost use Rattle.records.specs.Log.{upTo, standardAt, unitAt};
 ghost use Rattle.records.specs.Covers.{Covers};
 ghost use Rattle.rules.specs.Theoretical.{inForce};
 ghost use Rattle.rules.specs.RecordGrounds.{isAmong, standardGround, unitGround};
-ghost use Rattle.theoretical.specs.Chains.{lastOf, Rising, Proper, entryOf, entryIn, lookupOf};
+ghost use Rattle.theoretical.specs.Chains.{lastOf, Rising, TimedApart, entryOf, entryIn, lookupOf};
 ghost use Rattle.theoretical.specs.Listing.{Chained, Listing, Tested, Added, AllListed};
-ghost use Rattle.theoretical.specs.Credits.{ownGrounds, Summed, Unit, AllUnits, Units};
+ghost use Rattle.theoretical.specs.Credits.{ownGrounds, SumsSoFar, OneUnit, AllUnits, Units};
 use records::Header;
 use records::Standard;
 use records::UnitRecord;
@@ -168,7 +168,7 @@ fn latest(
 ) -> u64
     requires { ⌜ Chained (standardAt (now log) h) n (now entries) (now links) ⌝ }
     requires { ⌜ (from ≡ lastOf (standardAt (now log) h) recipe n) × (time < 2 ^ 35) ⌝ }
-    requires { ⌜ Proper (standardAt (now log) h) n ⌝ }
+    requires { ⌜ TimedApart (standardAt (now log) h) n ⌝ }
     ensures { λ r. ⌜ r ≡ entryIn (inForce (upTo (standardAt (now (log .entry)) h) n) recipe time) ⌝ }
 {
     let limit = limit_of(time);
@@ -196,7 +196,7 @@ fn entry_in_force(
 ) -> u64
     requires { ⌜ Chained (standardAt (now log) h) n (now entries) (now links) ⌝ }
     requires { ⌜ (from ≡ lastOf (standardAt (now log) h) recipe n) × (time < 2 ^ 35) ⌝ }
-    requires { ⌜ (rising ≡ true → Rising (standardAt (now log) h) n) × Proper (standardAt (now log) h) n ⌝ }
+    requires { ⌜ (rising ≡ true → Rising (standardAt (now log) h) n) × TimedApart (standardAt (now log) h) n ⌝ }
     ensures { λ r. ⌜ r ≡ entryIn (inForce (upTo (standardAt (now (log .entry)) h) n) recipe time) ⌝ }
 {
     if rising {
@@ -219,7 +219,7 @@ fn look_up(
     time: u64,
 ) -> Lookup
     requires { ⌜ Listing (standardAt (now log) h) n (now entries) (now links) (now last) ⌝ }
-    requires { ⌜ (rising ≡ true → Rising (standardAt (now log) h) n) × Proper (standardAt (now log) h) n ⌝ }
+    requires { ⌜ (rising ≡ true → Rising (standardAt (now log) h) n) × TimedApart (standardAt (now log) h) n ⌝ }
     requires { ⌜ (recipe < 1024) × (time < 2 ^ 35) ⌝ }
     ensures { λ r. ⌜ r ≡ lookupOf (inForce (upTo (standardAt (now (log .entry)) h) n) recipe time) ⌝ }
 {
@@ -411,10 +411,10 @@ fn credit_unit(
     effective: &mut [u64; 64],
 ) -> Verdict
     requires { ⌜ Listing (standardAt (now log) h) (h .standards) (now entries) (now links) (now last) ⌝ }
-    requires { ⌜ (rising ≡ true → Rising (standardAt (now log) h) (h .standards)) × Proper (standardAt (now log) h) (h .standards) ⌝ }
-    requires { ⌜ Summed (upTo (standardAt (now log) h) (h .standards)) (upTo (unitAt (now log) h) i) i (now actual) (now effective) ⌝ }
+    requires { ⌜ (rising ≡ true → Rising (standardAt (now log) h) (h .standards)) × TimedApart (standardAt (now log) h) (h .standards) ⌝ }
+    requires { ⌜ SumsSoFar (upTo (standardAt (now log) h) (h .standards)) (upTo (unitAt (now log) h) i) i (now actual) (now effective) ⌝ }
     requires { ⌜ (i < 2000) × Covers (now log) (10 + 6 * h .states + 9 * h .standards + 11 * i + 11) ⌝ }
-    ensures { λ r. ⌜ Unit (h .period) (h .modules) (upTo (standardAt (now (log .entry)) h) (h .standards)) (unitAt (now (log .entry)) h) i r (now (actual .exit)) (now (effective .exit)) ⌝ }
+    ensures { λ r. ⌜ OneUnit (h .period) (h .modules) (upTo (standardAt (now (log .entry)) h) (h .standards)) (unitAt (now (log .entry)) h) i r (now (actual .exit)) (now (effective .exit)) ⌝ }
 {
     let u = records::unit_within(log, h, i);
     let own = test_unit(h, i, u);
@@ -443,8 +443,8 @@ fn credit_listed(
     effective: &mut [u64; 64],
 ) -> Verdict
     requires { ⌜ Listing (standardAt (now log) h) (h .standards) (now entries) (now links) (now last) ⌝ }
-    requires { ⌜ (rising ≡ true → Rising (standardAt (now log) h) (h .standards)) × Proper (standardAt (now log) h) (h .standards) ⌝ }
-    requires { ⌜ Summed (upTo (standardAt (now log) h) (h .standards)) (upTo (unitAt (now log) h) 0) 0 (now actual) (now effective) ⌝ }
+    requires { ⌜ (rising ≡ true → Rising (standardAt (now log) h) (h .standards)) × TimedApart (standardAt (now log) h) (h .standards) ⌝ }
+    requires { ⌜ SumsSoFar (upTo (standardAt (now log) h) (h .standards)) (upTo (unitAt (now log) h) 0) 0 (now actual) (now effective) ⌝ }
     requires { ⌜ (h .units ≤ 2000) × Covers (now log) (10 + 6 * h .states + 9 * h .standards + 11 * h .units) ⌝ }
     ensures { λ r. ⌜ AllUnits (h .period) (h .modules) (upTo (standardAt (now (log .entry)) h) (h .standards)) (upTo (unitAt (now (log .entry)) h) (h .units)) r (now (actual .exit)) (now (effective .exit)) ⌝ }
 {

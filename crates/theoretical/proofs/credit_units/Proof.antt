@@ -8,7 +8,7 @@ use Rattle.rules.specs.declared.Verdict.{Verdict}
 use Rattle.rules.specs.Grounds.{_then_}
 use Rattle.rules.specs.RecordGrounds.{unitGrounds}
 use Rattle.rules.proofs.FirstGround.{refused-not}
-use Rattle.theoretical.proofs.Listings.{time-low, proper-accepted, listing-none}
+use Rattle.theoretical.proofs.Listings.{time-low, timed-apart, listing-none}
 use Rattle.theoretical.proofs.Crediting.{summed-none}
 use Rattle.theoretical.proofs.credit_units.Statement.{statement}
 use Rattle.theoretical.proofs.credit_units.Tie as tie
@@ -36,7 +36,7 @@ credit-listed-requires c κs =
     let a = s .args in
     let l = r .list-standards .ensures in
     let fine = t .enum-told2 .given .1 in
-    let proper = proper-accepted (a .h .period) (standardAt (a .log .now) (a .h)) (a .h .standards) (time-low (a .log .now) (a .h)) (sym (l .answer) ∙ fine) in
+    let proper = timed-apart (a .h .period) (standardAt (a .log .now) (a .h)) (a .h .standards) (time-low (a .log .now) (a .h)) (sym (l .answer) ∙ fine) in
     (l .listing fine, ((l .rising fine, proper), (summed-none _ _ _ _ (s .pre .1 .0) (s .pre .1 .1), (s .pre .0 .1, s .pre .0 .2))))
 
 returns-2 : tie.Need-returns-2
