@@ -164,8 +164,9 @@ fn put_labelled(buf: &mut [u8], at: usize, label: &[u8], n: usize) -> usize
     put_decimal(buf, number, n as u64)
 }
 
-// The line for a refused log, at the front of the buffer, and its length. Every refusal fits.
-pub fn put_refused_line(buf: &mut [u8; 80], x: Refusal) -> usize
+// The line for a refused log, at the front of the buffer, and its length. The caller owes 80 bytes, in which every refusal fits.
+pub fn put_refused_line(buf: &mut [u8], x: Refusal) -> usize
+    requires { ⌜ 80 ≤ length (now buf) ⌝ }
     ensures { λ r. ⌜ PutRefused x (now (buf .entry)) r (now (buf .exit)) ⌝ }
 {
     let number = put_labelled(buf, 0, b"refused ", x.number);

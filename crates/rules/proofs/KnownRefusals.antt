@@ -19,7 +19,7 @@ use Rattle.rules.specs.RecordGrounds.{lastTime, ownTime, isBefore, isNot
 use Rattle.rules.specs.Theoretical.{inForce}
 use Rattle.rules.specs.Quantities.{timeIn, actualTime, ofTool, toolTimes}
 use Rattle.rules.specs.Verdict.{badPeriod, badModules, badCounts, badLength, headerGrounds, fastGround, anyOver, anyTimeOver, sumGrounds, recordGrounds, verdict}
-use Rattle.rules.specs.Refusals.{Row, isRow, Known, logRefusals}
+use Rattle.rules.specs.Refusals.{Row, isRow, Known, logRefusals, OfLog}
 
 -- what is refused, if it is, is known
 pub record AllKnown (rows : List Row) (v : Verdict) : Type 0 where
@@ -109,3 +109,6 @@ known-records l =
 pub verdict-known : (s : List ℕ) (x : Refusal) → verdict s ≡ Refused x → Known logRefusals x
 unfolding verdict
 verdict-known s x e = (known-header s and known-records (decode s)) .known x e
+
+pub log-refusal : (s : List ℕ) (x : Refusal) → verdict s ≡ Refused x → OfLog s x
+log-refusal s x e = record { met = e; known = verdict-known s x e }

@@ -11,9 +11,9 @@ use lib.Dec.{leb, eqb}
 use borrow.Author.Tests.{eq-eqb, ne-eqb, le-leb, lt-leb, leb-true, leb-false}
 use Rattle.records.specs.declared.Standard.{Standard}
 use Rattle.records.specs.Log.{upTo}
-use Rattle.rules.specs.Theoretical.{later, inForce}
+use Rattle.rules.specs.Theoretical.{later, inForce, Answers}
 use Rattle.rules.specs.RecordGrounds.{isAmong}
-use Rattle.rules.proofs.InForce.{Answers, force-more, other-recipe, not-begun, counted, in-force}
+use Rattle.rules.proofs.InForce.{force-more, other-recipe, not-begun, counted, in-force}
 use Rattle.theoretical.specs.Chains.{lastOf, Rising}
 
 -- of two standards found, the one with the later start, and the first where they are equal

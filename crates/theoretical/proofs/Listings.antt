@@ -20,10 +20,10 @@ use Rattle.rules.specs.declared.Refusal.{Refusal}
 use Rattle.rules.specs.declared.Verdict.{Verdict}
 use Rattle.rules.specs.declared.Verdict.the-variants.{Accepted, Refused}
 use Rattle.rules.specs.Grounds.{ground, firstOf}
-use Rattle.rules.specs.Theoretical.{inForce}
+use Rattle.rules.specs.Theoretical.{inForce, Answers}
 use Rattle.rules.specs.RecordGrounds.{isAmong, standardGround, standardGrounds}
 use Rattle.rules.proofs.FirstGround.{refused-not, then-left, then-right, not-met, first-none, first-more, first-stop, first-all, turn-range}
-use Rattle.rules.proofs.InForce.{Answers, in-force}
+use Rattle.rules.proofs.InForce.{in-force}
 use Rattle.theoretical.specs.declared.Listed.{Listed}
 use Rattle.theoretical.specs.declared.Lookup.the-variants.{Found, Nothing}
 use Rattle.theoretical.specs.Chains.{lastOf, Rising, TimedApart, entryOf, entryIn, lookupOf}

@@ -1,4 +1,0 @@
-pub mod Working
-pub mod Calls
-pub mod Summaries
-pub mod Reports

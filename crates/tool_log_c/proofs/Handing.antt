@@ -11,18 +11,18 @@ use Rattle.rules.specs.declared.Refusal.{Refusal}
 use Rattle.rules.specs.declared.StateTimes.{StateTimes}
 use Rattle.rules.specs.declared.Verdict.{Verdict}
 use Rattle.rules.specs.declared.Verdict.the-variants.{Accepted, Refused}
-use Rattle.tool_log.specs.declared.StateTimesAnswer.{StateTimesAnswer}
-use Rattle.tool_log.specs.declared.StateTimesAnswer.the-variants as times
-use Rattle.tool_log.specs.declared.QuantitiesAnswer.{QuantitiesAnswer}
-use Rattle.tool_log.specs.declared.QuantitiesAnswer.the-variants as quantities
-use Rattle.tool_log.specs.declared.FiguresAnswer.{FiguresAnswer}
-use Rattle.tool_log.specs.declared.FiguresAnswer.the-variants as figures
-use Rattle.tool_log.specs.Calls.{answerOf, Given}
-use Rattle.tool_log.specs.Reports as reports
+use Rattle.answering.specs.declared.StateTimesAnswer.{StateTimesAnswer}
+use Rattle.answering.specs.declared.StateTimesAnswer.the-variants as times
+use Rattle.answering.specs.declared.QuantitiesAnswer.{QuantitiesAnswer}
+use Rattle.answering.specs.declared.QuantitiesAnswer.the-variants as quantities
+use Rattle.answering.specs.declared.FiguresAnswer.{FiguresAnswer}
+use Rattle.answering.specs.declared.FiguresAnswer.the-variants as figures
+use Rattle.answering.specs.Calls.{answerOf, Given}
+use Rattle.reporting.specs.Reports as reports
 use Rattle.tool_log_c.specs.Arrays.{timesOf, quantitiesOf, ratiosOf, basesOf}
 use Rattle.tool_log_c.specs.Told.{answerOr, Told}
 use Rattle.tool_log_c.specs.Answers.{timesVerdict, timesAfter, quantitiesVerdict, quantitiesAfter, figuresVerdict, ratiosAfter, basesAfter}
-use Rattle.tool_log_c.specs.Calls.{Promised, Examined, Numbers, Doubles}
+use Rattle.tool_log_c.specs.Calls.{Promised, TellsVerdict, Numbers, Doubles}
 
 -- ---- for every kind of answer
 
@@ -57,7 +57,7 @@ module _ {A R : Type 0} {answered : A → R} {refused : Refusal → R} {v : Verd
 
 -- ---- the calls
 
-pub examined : {s : List ℕ} {room : ℕ} {w : Verdict} {r : ℕ} {refusal : List ℕ} → reports.Examined s room w → Told w r refusal → Examined s room r refusal
+pub examined : {s : List ℕ} {room : ℕ} {w : Verdict} {r : ℕ} {refusal : List ℕ} → reports.Examined s room w → Told w r refusal → TellsVerdict s room r refusal
 examined g t = record { told = told-of (g .answer) t; known = λ x p. g .refusal x (g .answer ∙ p) }
 
 module _ {v : Verdict} {Allowed : Refusal → Type 0} {flag : ℕ} {refusal : List ℕ} where

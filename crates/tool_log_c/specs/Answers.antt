@@ -5,12 +5,12 @@ use Prim.Native.Nat.{ℕ}
 use lib.Ieee.{Float}
 use Rattle.rules.specs.declared.Verdict.{Verdict}
 use Rattle.rules.specs.declared.Verdict.the-variants as verdict
-use Rattle.tool_log.specs.declared.StateTimesAnswer.{StateTimesAnswer}
-use Rattle.tool_log.specs.declared.StateTimesAnswer.the-variants as times
-use Rattle.tool_log.specs.declared.QuantitiesAnswer.{QuantitiesAnswer}
-use Rattle.tool_log.specs.declared.QuantitiesAnswer.the-variants as quantities
-use Rattle.tool_log.specs.declared.FiguresAnswer.{FiguresAnswer}
-use Rattle.tool_log.specs.declared.FiguresAnswer.the-variants as figures
+use Rattle.answering.specs.declared.StateTimesAnswer.{StateTimesAnswer}
+use Rattle.answering.specs.declared.StateTimesAnswer.the-variants as times
+use Rattle.answering.specs.declared.QuantitiesAnswer.{QuantitiesAnswer}
+use Rattle.answering.specs.declared.QuantitiesAnswer.the-variants as quantities
+use Rattle.answering.specs.declared.FiguresAnswer.{FiguresAnswer}
+use Rattle.answering.specs.declared.FiguresAnswer.the-variants as figures
 use Rattle.tool_log_c.specs.Arrays.{timesOf, quantitiesOf, ratiosOf, basesOf}
 
 -- ---- state times

@@ -12,10 +12,11 @@ use Rattle.e79.specs.Accuracy.{Accurate}
 use Rattle.rules.specs.declared.Refusal.{Refusal}
 use Rattle.rules.specs.declared.Verdict.{Verdict}
 use Rattle.rules.specs.declared.Verdict.the-variants.{Accepted, Refused}
-use Rattle.rules.specs.Quantities.{moduleTimes, toolTimes, ofModule, ofTool}
+use Rattle.rules.specs.Quantities.{allTimes, moduleTimes, toolTimes, ofModule, ofTool}
 use Rattle.rules.specs.Verdict.{verdict, verdictOn}
-use Rattle.tool_log.specs.Calls.{OfLog, OnModule, allTimes}
-use Rattle.tool_log.specs.Reports.{verdictFor, ForRoom}
+use Rattle.answering.specs.Calls.{OnModule}
+use Rattle.rules.specs.Refusals.{OfLog}
+use Rattle.reporting.specs.Reports.{verdictFor, ForRoom}
 use Rattle.tool_log_c.specs.Arrays.{timesOf, quantitiesOf, ratiosOf, basesOf}
 use Rattle.tool_log_c.specs.Told.{answerOr, Told}
 
@@ -26,7 +27,7 @@ pub record Promised (v : Verdict) (Promise : Type 0) (Allowed : Refusal → Type
 
 -- ---- the verdict for a buffer
 
-pub record Examined (s : List ℕ) (room r : ℕ) (refusal : List ℕ) : Type 0 where
+pub record TellsVerdict (s : List ℕ) (room r : ℕ) (refusal : List ℕ) : Type 0 where
   pub told : Told (verdictFor s room) r refusal
   pub known : (x : Refusal) → verdictFor s room ≡ Refused x → ForRoom s room x
 
@@ -38,25 +39,25 @@ pub record Numbers (v : Verdict) (numbers before : List ℕ) (Promise : Type 0) 
   pub known : Promised v Promise Allowed
 
 -- the six state times of module m, which add up to the period
-abbrev pub ModuleTimes : List ℕ → ℕ → List ℕ → ℕ → List ℕ → List ℕ → Type 0
-ModuleTimes s m before r after refusal =
+abbrev pub TellsModuleTimes : List ℕ → ℕ → List ℕ → ℕ → List ℕ → List ℕ → Type 0
+TellsModuleTimes s m before r after refusal =
     let t = moduleTimes (decode s) m in
     Numbers (verdictOn s m) (timesOf t) before (allTimes t ≡ decode s .period) (OnModule s m) r after refusal
 
 -- the tool's, which add up to its total time
-abbrev pub ToolTimes : List ℕ → List ℕ → ℕ → List ℕ → List ℕ → Type 0
-ToolTimes s before r after refusal =
+abbrev pub TellsToolTimes : List ℕ → List ℕ → ℕ → List ℕ → List ℕ → Type 0
+TellsToolTimes s before r after refusal =
     let t = toolTimes (decode s) in
     Numbers (verdict s) (timesOf t) before (allTimes t ≡ ofTool (decode s) .total) (OfLog s) r after refusal
 
 -- the five quantities of module m, none of which passes the one before it
-abbrev pub ModuleQuantities : List ℕ → ℕ → List ℕ → ℕ → List ℕ → List ℕ → Type 0
-ModuleQuantities s m before r after refusal =
+abbrev pub TellsModuleQuantities : List ℕ → ℕ → List ℕ → ℕ → List ℕ → List ℕ → Type 0
+TellsModuleQuantities s m before r after refusal =
     let q = ofModule (decode s) m in
     Numbers (verdictOn s m) (quantitiesOf q) before (Ordered q) (OnModule s m) r after refusal
 
-abbrev pub ToolQuantities : List ℕ → List ℕ → ℕ → List ℕ → List ℕ → Type 0
-ToolQuantities s before r after refusal =
+abbrev pub TellsToolQuantities : List ℕ → List ℕ → ℕ → List ℕ → List ℕ → Type 0
+TellsToolQuantities s before r after refusal =
     let q = ofTool (decode s) in
     Numbers (verdict s) (quantitiesOf q) before (Ordered q) (OfLog s) r after refusal
 
@@ -69,10 +70,10 @@ pub record Doubles (v : Verdict) (q : Quantities) (before : List Float) (basedBe
   pub bases : based ≡ answerOr v (basesOf (figuresOf q)) basedBefore
   pub known : Promised v (Accurate q (figuresOf q)) Allowed
 
-abbrev pub ModuleFigures : List ℕ → ℕ → List Float → List ℕ → ℕ → List Float → List ℕ → List ℕ → Type 0
-ModuleFigures s m before basedBefore r after based refusal =
+abbrev pub TellsModuleFigures : List ℕ → ℕ → List Float → List ℕ → ℕ → List Float → List ℕ → List ℕ → Type 0
+TellsModuleFigures s m before basedBefore r after based refusal =
     Doubles (verdictOn s m) (ofModule (decode s) m) before basedBefore (OnModule s m) r after based refusal
 
-abbrev pub ToolFigures : List ℕ → List Float → List ℕ → ℕ → List Float → List ℕ → List ℕ → Type 0
-ToolFigures s before basedBefore r after based refusal =
+abbrev pub TellsToolFigures : List ℕ → List Float → List ℕ → ℕ → List Float → List ℕ → List ℕ → Type 0
+TellsToolFigures s before basedBefore r after based refusal =
     Doubles (verdict s) (ofTool (decode s)) before basedBefore (OfLog s) r after based refusal

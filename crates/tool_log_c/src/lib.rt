@@ -1,11 +1,11 @@
 // What a dashboard links: the calls of `tool_log` as C functions. None has a `requires`, and each array that a caller lends has a fixed size.
 ghost use mathlib.Core.Path.{_≡_};
 ghost use lib.Ieee.{nan};
-ghost use Rattle.tool_log.specs.Reports.{Written};
+ghost use Rattle.reporting.specs.Reports.{Written};
 ghost use Rattle.tool_log_c.specs.Arrays.{ratioOf, baseOf, timesOf, quantitiesOf, ratiosOf, basesOf};
 ghost use Rattle.tool_log_c.specs.Told.{Told};
 ghost use Rattle.tool_log_c.specs.Answers.{timesVerdict, timesAfter, quantitiesVerdict, quantitiesAfter, figuresVerdict, ratiosAfter, basesAfter};
-ghost use Rattle.tool_log_c.specs.Calls.{Examined, ModuleTimes, ToolTimes, ModuleQuantities, ToolQuantities, ModuleFigures, ToolFigures};
+ghost use Rattle.tool_log_c.specs.Calls.{TellsVerdict, TellsModuleTimes, TellsToolTimes, TellsModuleQuantities, TellsToolQuantities, TellsModuleFigures, TellsToolFigures};
 use e79::Efficiency;
 use e79::Figures;
 use e79::Quantities;
@@ -164,7 +164,7 @@ fn tell_figures(
 // Acceptance of a log and a buffer of `room` bytes for its report, or the refusal.
 #[no_mangle]
 pub extern "C" fn tl_examine(log: &[u8], room: usize, refusal: &mut [u64; 3]) -> u32
-    ensures { λ r. ⌜ Examined (now (log .entry)) room r (now (refusal .exit)) ⌝ }
+    ensures { λ r. ⌜ TellsVerdict (now (log .entry)) room r (now (refusal .exit)) ⌝ }
 {
     tell(tool_log::examine(log, room), refusal)
 }
@@ -188,7 +188,7 @@ pub extern "C" fn tl_module_state_times(
     times: &mut [u64; 6],
     refusal: &mut [u64; 3],
 ) -> u32
-    ensures { λ r. ⌜ ModuleTimes (now (log .entry)) m (now (times .entry)) r (now (times .exit)) (now (refusal .exit)) ⌝ }
+    ensures { λ r. ⌜ TellsModuleTimes (now (log .entry)) m (now (times .entry)) r (now (times .exit)) (now (refusal .exit)) ⌝ }
 {
     tell_times(tool_log::module_state_times(log, m), times, refusal)
 }
@@ -200,7 +200,7 @@ pub extern "C" fn tl_tool_state_times(
     times: &mut [u64; 6],
     refusal: &mut [u64; 3],
 ) -> u32
-    ensures { λ r. ⌜ ToolTimes (now (log .entry)) (now (times .entry)) r (now (times .exit)) (now (refusal .exit)) ⌝ }
+    ensures { λ r. ⌜ TellsToolTimes (now (log .entry)) (now (times .entry)) r (now (times .exit)) (now (refusal .exit)) ⌝ }
 {
     tell_times(tool_log::tool_state_times(log), times, refusal)
 }
@@ -213,7 +213,7 @@ pub extern "C" fn tl_module_quantities(
     quantities: &mut [u64; 5],
     refusal: &mut [u64; 3],
 ) -> u32
-    ensures { λ r. ⌜ ModuleQuantities (now (log .entry)) m (now (quantities .entry)) r (now (quantities .exit)) (now (refusal .exit)) ⌝ }
+    ensures { λ r. ⌜ TellsModuleQuantities (now (log .entry)) m (now (quantities .entry)) r (now (quantities .exit)) (now (refusal .exit)) ⌝ }
 {
     tell_quantities(tool_log::module_quantities(log, m), quantities, refusal)
 }
@@ -225,7 +225,7 @@ pub extern "C" fn tl_tool_quantities(
     quantities: &mut [u64; 5],
     refusal: &mut [u64; 3],
 ) -> u32
-    ensures { λ r. ⌜ ToolQuantities (now (log .entry)) (now (quantities .entry)) r (now (quantities .exit)) (now (refusal .exit)) ⌝ }
+    ensures { λ r. ⌜ TellsToolQuantities (now (log .entry)) (now (quantities .entry)) r (now (quantities .exit)) (now (refusal .exit)) ⌝ }
 {
     tell_quantities(tool_log::tool_quantities(log), quantities, refusal)
 }
@@ -239,7 +239,7 @@ pub extern "C" fn tl_module_figures(
     based: &mut [u8; 4],
     refusal: &mut [u64; 3],
 ) -> u32
-    ensures { λ r. ⌜ ModuleFigures (now (log .entry)) m (now (figures .entry)) (now (based .entry)) r (now (figures .exit)) (now (based .exit)) (now (refusal .exit)) ⌝ }
+    ensures { λ r. ⌜ TellsModuleFigures (now (log .entry)) m (now (figures .entry)) (now (based .entry)) r (now (figures .exit)) (now (based .exit)) (now (refusal .exit)) ⌝ }
 {
     tell_figures(tool_log::module_figures(log, m), figures, based, refusal)
 }
@@ -252,7 +252,7 @@ pub extern "C" fn tl_tool_figures(
     based: &mut [u8; 4],
     refusal: &mut [u64; 3],
 ) -> u32
-    ensures { λ r. ⌜ ToolFigures (now (log .entry)) (now (figures .entry)) (now (based .entry)) r (now (figures .exit)) (now (based .exit)) (now (refusal .exit)) ⌝ }
+    ensures { λ r. ⌜ TellsToolFigures (now (log .entry)) (now (figures .entry)) (now (based .entry)) r (now (figures .exit)) (now (based .exit)) (now (refusal .exit)) ⌝ }
 {
     tell_figures(tool_log::tool_figures(log), figures, based, refusal)
 }

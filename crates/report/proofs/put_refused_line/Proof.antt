@@ -34,17 +34,21 @@ slice-aggregate-put-text c = search needs
 put-text-requires : tie.Need-put-text-requires
 put-text-requires c κs = search needs
 
+same-length : tie.Need-same-length
+same-length c = search needs
+
 returns : tie.Need-returns
 unfolding refusedLine
 returns c =
-    let place = c .before .before .before in
-    let list = place .before .before .before in
-    let number = list .before .before .before in
-    let start = number .before .before .before .args in
-    let line : Put (refusedLine (start .x)) (now (start .buf)) 0 (c .put-text .result) (c .put-text .last .0) =
-    then (then (then (number .put-labelled .ensures .0) (list .put-labelled2 .ensures .0)) (place .put-labelled3 .ensures .0)) (c .put-text .ensures) in
+    let text = c .before .before in
+    let place = text .before .before .before .before .before in
+    let list = place .before .before .before .before .before in
+    let number = list .before .before .before .before .before in
+    let start = number .before .before .before .before .args in
+    let line : Put (refusedLine (start .x)) (now (start .buf)) 0 (text .put-text .result) (text .put-text .last .0) =
+    then (then (then (number .put-labelled .ensures .0) (list .put-labelled2 .ensures .0)) (place .put-labelled3 .ensures .0)) (text .put-text .ensures) in
     let size = line .next ∙ zero-add (length (refusedLine (start .x))) in
-    record { size = size; within = omega arith; bytes = rw size (line .bytes ∙ written-front (now (start .buf)) (refusedLine (start .x))) }
+    record { size = size; within = omega (arith, number .put-labelled .ensures .1, list .put-labelled2 .ensures .1, place .put-labelled3 .ensures .1, text .put-text .ensures .next); bytes = rw size (line .bytes ∙ written-front (now (start .buf)) (refusedLine (start .x))) }
 
 pub put-refused-line-spec : {M : Type 1} → statement M
 put-refused-line-spec =
@@ -58,4 +62,5 @@ put-refused-line-spec =
     put-labelled-requires-3
     slice-aggregate-put-text
     put-text-requires
+    same-length
     returns)

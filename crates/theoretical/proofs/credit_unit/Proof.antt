@@ -11,8 +11,8 @@ use Rattle.records.specs.declared.Standard.{Standard}
 use Rattle.records.specs.declared.UnitRecord.{UnitRecord}
 use Rattle.records.specs.Log.{upTo, standardAt, unitAt}
 use Rattle.records.proofs.Widths.{standard-fits, unit-fits}
-use Rattle.rules.specs.Theoretical.{inForce}
-use Rattle.rules.proofs.InForce.{Answers, in-force}
+use Rattle.rules.specs.Theoretical.{inForce, Answers}
+use Rattle.rules.proofs.InForce.{in-force}
 use Rattle.theoretical.specs.declared.Lookup.{Lookup}
 use Rattle.theoretical.specs.declared.Lookup.the-variants.{Found, Nothing}
 use Rattle.theoretical.specs.Chains.{lookupOf}

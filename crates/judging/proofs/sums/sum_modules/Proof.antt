@@ -1,0 +1,49 @@
+-- `judging::sums::sum_modules` meets its contract: the sum so far is that of the modules passed, and none is above the longest period.
+-- Assumes nothing.
+use borrow.Author.Needs.{needs}
+use mathlib.Core.Path.{_≡_, refl, sym, ap, _∙_}
+use Prim.Native.Nat.{ℕ, _+_, _*_, _-_, _≤_, _<_}
+use native.Mathlib.Omega.{arith}
+use lib.ListN.{getD}
+use Rattle.rules.specs.Quantities.{sumBelow}
+use Rattle.judging.proofs.SumLaws.{sum-none, sum-more, sum-low}
+use Rattle.judging.proofs.sums.sum_modules.Statement.{statement}
+use Rattle.judging.proofs.sums.sum_modules.Tie as tie
+
+abbrev Inv-loop : tie.InvT-loop
+Inv-loop values modules sum₀ m₀ sum m = (m ≤ modules) × (sum ≡ sumBelow (λ j. getD values j 0) m)
+
+abbrev μ-loop : tie.MeasureT-loop
+μ-loop values modules sum₀ m₀ sum m = modules - m
+
+loop-holds : tie.Need-loop-holds Inv-loop μ-loop
+loop-holds c = let a = c .args in (omega arith, sym (sum-none (λ j. getD (a .values .now) j 0)))
+
+low : (c : tie.In-loop Inv-loop μ-loop) → let s = c .before .before in let a = s .args in let l = c .before .loop in (l .sum ≤ 31622400000 * l .m) × (getD (a .values .now) (l .m) 0 ≤ 31622400000)
+low c =
+    let s = c .before .before in
+    let a = s .args in
+    let l = c .before .loop in
+    (rw (l .inv .1) (sum-low (λ j. getD (a .values .now) j 0) 31622400000 (l .m) (λ j h. s .pre .1 j (omega (arith, c .loop-test .taken)))), s .pre .1 (l .m) (c .loop-test .taken))
+
+loop-again : tie.Need-loop-again Inv-loop μ-loop
+loop-again c =
+    let a = c .before .before .before .args in
+    let l = c .before .before .loop in
+    (omega (arith, c .before .loop-test .taken), ap (λ (x : ℕ). x + getD (a .values .now) (l .m) 0) (l .inv .1) ∙ sym (sum-more (λ j. getD (a .values .now) j 0) (l .m)))
+
+returns : tie.Need-returns Inv-loop μ-loop
+returns c =
+    let l = c .before .loop in
+    let a = c .before .before .args in
+    l .inv .1 ∙ ap (sumBelow (λ j. getD (a .values .now) j 0)) (omega (arith, l .inv .0, c .loop-test .left))
+
+pub sum-modules-spec : {M : Type 1} → statement M
+sum-modules-spec = tie.close (tie.spec Inv-loop μ-loop loop-holds
+    (λ c. omega (arith, c .loop-test .taken, c .before .before .pre .0))
+    (λ c. omega (arith, c .loop-test .taken, c .before .before .pre .0))
+    (λ c. omega (arith, low (c .before), c .before .loop-test .taken, c .before .before .before .pre .0))
+    (λ c. omega (arith, c .before .loop-test .taken, c .before .before .before .pre .0))
+    (λ c. omega (arith, c .before .loop-test .taken))
+    loop-again
+    returns)

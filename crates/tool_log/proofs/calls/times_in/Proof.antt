@@ -1,8 +1,0 @@
--- `tool_log::calls::times_in` meets its contract: the verdict decides.
--- Assumes nothing.
-use borrow.Author.Needs.{needs}
-use Rattle.tool_log.proofs.calls.times_in.Statement.{statement}
-use Rattle.tool_log.proofs.calls.times_in.Tie as tie
-
-pub times-in-spec : {M : Type 1} → statement M
-times-in-spec = tie.close (tie.spec (λ c. search needs) (λ c. rw (c .before .verdict .given .1)) (λ c. search needs) (λ c. rw (c .before .enum-told .given .1)))
