@@ -10,8 +10,6 @@ pub mod records;
 pub mod tally;
 
 #[cfg(feature = "library")]
-pub mod c_interface;
-#[cfg(feature = "library")]
 pub mod comparison;
 #[cfg(feature = "library")]
 pub mod library;

@@ -1,6 +1,6 @@
 //! The linked library, called safely. Arrays go in filled, so that what a refusal leaves shows.
 
-use crate::c_interface as c;
+use tool_log::c;
 
 /// Whose sums are asked for.
 #[derive(Clone, Copy, Debug, PartialEq, Eq)]

@@ -2,27 +2,9 @@
 //!
 //! Every function takes any bytes as a log, and answers or refuses. Times are whole milliseconds. A module is counted from 0.
 
-use std::fmt;
+pub mod c;
 
-mod c {
-    extern "C" {
-        pub fn tl_examine(log: *const u8, log_len: usize, room: usize, refusal: *mut [u64; 3]) -> u32;
-        pub fn tl_report(log: *const u8, log_len: usize, buf: *mut u8, buf_len: usize) -> usize;
-        pub fn tl_module_state_times(log: *const u8, log_len: usize, module: usize, times: *mut [u64; 6], refusal: *mut [u64; 3]) -> u32;
-        pub fn tl_tool_state_times(log: *const u8, log_len: usize, times: *mut [u64; 6], refusal: *mut [u64; 3]) -> u32;
-        pub fn tl_module_quantities(log: *const u8, log_len: usize, module: usize, quantities: *mut [u64; 5], refusal: *mut [u64; 3]) -> u32;
-        pub fn tl_tool_quantities(log: *const u8, log_len: usize, quantities: *mut [u64; 5], refusal: *mut [u64; 3]) -> u32;
-        pub fn tl_module_figures(
-            log: *const u8,
-            log_len: usize,
-            module: usize,
-            figures: *mut [f64; 6],
-            based: *mut [u8; 4],
-            refusal: *mut [u64; 3],
-        ) -> u32;
-        pub fn tl_tool_figures(log: *const u8, log_len: usize, figures: *mut [f64; 6], based: *mut [u8; 4], refusal: *mut [u64; 3]) -> u32;
-    }
-}
+use std::fmt;
 
 /// The longest report: a buffer of this size suffices for every log.
 pub const LONGEST_REPORT: usize = 2494;

@@ -173,6 +173,39 @@ fn the_header_says_the_same() {
     assert!(header.contains(&format!("TL_LONGEST_REPORT {LONGEST_REPORT}\n")) && header.contains(&format!("TL_LONGEST_LOG {LONGEST_LOG}\n")));
 }
 
+// A number's type or a parameter of the header, as Rust writes it.
+fn number(c: &str) -> &str {
+    let types = [("uint8_t", "u8"), ("uint32_t", "u32"), ("uint64_t", "u64"), ("size_t", "usize"), ("double", "f64")];
+    types.into_iter().find(|t| t.0 == c).map(|t| t.1).unwrap_or_else(|| panic!("the type {c} of the header"))
+}
+
+fn parameter(c: &str) -> String {
+    let (c, name) = c.trim().rsplit_once(' ').unwrap();
+    let (pointer, c) = c.strip_prefix("const ").map_or(("*mut", c), |c| ("*const", c));
+    match (name.strip_prefix('*'), name.split_once('[')) {
+        (Some(name), _) => format!("{name}: {pointer} {}", number(c)),
+        (_, Some((name, length))) => format!("{name}: {pointer} [{}; {length}", number(c)),
+        _ => format!("{name}: {}", number(c)),
+    }
+}
+
+#[test]
+fn the_functions_are_declared_as_in_the_header() {
+    let header = include_str!("../../../include/tool_log.h");
+    let without_comments: String = header.split("/*").map(|part| part.split_once("*/").map_or(part, |(_, code)| code)).collect();
+    let declarations = without_comments.split(';').filter_map(|part| part.split_once(" tl_"));
+    let in_header = declarations.map(|(before, rest)| {
+        let (name, parameters) = rest.trim_end_matches(')').split_once('(').unwrap();
+        let parameters: Vec<String> = parameters.split(',').map(parameter).collect();
+        format!("tl_{name}({}) -> {}", parameters.join(", "), number(before.split_whitespace().last().unwrap()))
+    });
+    let in_rust = include_str!("../src/c.rs").split("pub fn ").skip(1).map(|part| {
+        let words: Vec<&str> = part.rsplit_once(';').unwrap().0.split_whitespace().collect();
+        words.join(" ").replace("( ", "(").replace(", )", ")")
+    });
+    assert_eq!(in_rust.collect::<Vec<_>>(), in_header.collect::<Vec<_>>());
+}
+
 // The grounds 1 to 5 are worked out here from the header, which hardly any of these outlives.
 #[test]
 fn random_bytes() {
