@@ -6,7 +6,8 @@ from pathlib import Path
 SECOND = 1_000
 MINUTE = 60 * SECOND
 HOUR = 60 * MINUTE
-WEEK = 168 * HOUR
+DAY = 24 * HOUR
+WEEK = 7 * DAY
 
 # Sub-state codes used here.
 REGULAR, REWORK, LOT_ENGINEERING = 0, 2, 5
@@ -120,7 +121,6 @@ def etcher():
 
 def wide():
     """64 modules, a day; modules 20, 41 and 62 have no uptime, every tenth makes nothing."""
-    day = 24 * HOUR
     states, units = [], []
     for module in range(64):
         if module % 21 == 20:
@@ -134,25 +134,34 @@ def wide():
             actual = 300 + module
             units.append((module, module % 5, hours(11), actual, actual - module % 4))
     standards = [(recipe, 0, (90 + 10 * recipe) * SECOND) for recipe in range(5)]
-    return log(day, 64, by_time(states), standards, units)
+    return log(DAY, 64, by_time(states), standards, units)
 
 
-def refused_cut():
-    """Case W without its last byte."""
-    return case_w()[:-1]
+def longest():
+    """A leap year of 64 modules with as many records as a log may have. Every 93 hours the modules change, eight at a time; 64 recipes have eight
+    revisions each; units come of four modules and two recipes at a time, some at the very start of a revision."""
+    year = 366 * DAY
+    states = [(module, REGULAR, 0) for module in range(64)]
+    for change in range(6_000 - 64):
+        turn, module = divmod(change, 64)
+        code = (7 * (turn // 2) + module) % 24 if turn % 2 == 0 else turn % 6
+        states.append((module, code, (turn + 1) * 93 * HOUR + module // 8 * HOUR))
+    recipes = range(15, 1_024, 16)
+    standards = [(recipe, revision * year // 8, (200 - 5 * revision) * SECOND + recipe)
+                 for recipe in recipes for revision in range(8)]
+    units = []
+    for unit in range(2_000):
+        lot, module = unit // 8, unit // 2 % 64
+        actual = 2_500 + 17 * unit % 400 - 10 * module
+        units.append((module, recipes[2 * lot % 64 + unit % 2], lot * year // 256, actual, actual - unit % (module + 2)))
+    made = log(year, 64, states, standards, units)
+    assert len(made) == 62_618
+    return made
 
 
-def refused_no_standard():
-    """The second unit record is 1 ms ahead of its recipe's first standard."""
-    start = hours(2)
-    return log(8 * HOUR, 1, [(0, REGULAR, 0)], [(3, start, 60 * SECOND)],
-               [(0, 3, start, 20, 20), (0, 3, start - 1, 20, 20)])
-
-
-def refused_too_fast():
-    """Module 1 would have made 61 units of 1 minute in an hour."""
-    states = [(0, REGULAR, 0), (1, REGULAR, 0), (1, NO_PRODUCT, HOUR)]
-    return log(8 * HOUR, 2, states, [(0, 0, MINUTE)], [(0, 0, HOUR, 400, 396), (1, 0, HOUR, 61, 61)])
+def shift(period=8 * HOUR, modules=1, states=((0, REGULAR, 0),), standards=((3, 0, MINUTE),), units=((0, 3, HOUR, 60, 58),)):
+    """A shift of one module and one recipe. Nothing is wrong with it but what is given."""
+    return log(period, modules, states, standards, units)
 
 
 SAMPLES = {
@@ -162,9 +171,25 @@ SAMPLES = {
     "guidebook": guidebook,
     "etcher": etcher,
     "wide": wide,
-    "refused-cut": refused_cut,
-    "refused-no-standard": refused_no_standard,
-    "refused-too-fast": refused_too_fast,
+    "longest": longest,
+    # One for each number from 2 to 16.
+    "refused-period": lambda: shift(period=367 * DAY),
+    "refused-modules": lambda: shift(modules=65),
+    "refused-counts": lambda: pack([(8 * HOUR, 35), (1, 7), (6_001, 14), (1, 11), (1, 13)]),
+    "refused-cut": lambda: case_w()[:-1],
+    "refused-spare": lambda: case_w()[:-1] + bytes([case_w()[-1] | 1]),
+    "refused-stray-module": lambda: shift(units=[(0, 3, HOUR, 60, 58), (1, 3, HOUR, 60, 58)]),
+    "refused-stray-code": lambda: shift(states=[(0, REGULAR, 0), (0, 24, HOUR)]),
+    "refused-outside": lambda: shift(units=[(0, 3, HOUR, 60, 58), (0, 3, 8 * HOUR, 60, 58)]),
+    "refused-sequence": lambda: shift(states=[(0, REGULAR, 0), (0, NO_PRODUCT, 6 * HOUR), (0, REGULAR, 5 * HOUR)]),
+    "refused-no-opening": lambda: shift(modules=2, states=[(0, REGULAR, 0), (1, REGULAR, 1)]),
+    "refused-no-time": lambda: shift(standards=[(3, 0, MINUTE), (3, 2 * HOUR, 0)]),
+    "refused-twice": lambda: shift(standards=[(3, 0, MINUTE), (3, 0, 50 * SECOND)]),
+    "refused-over-good": lambda: shift(units=[(0, 3, HOUR, 58, 60)]),
+    "refused-no-standard": lambda: shift(standards=[(2, 0, MINUTE), (3, 2 * HOUR, MINUTE)],
+                                         units=[(0, 2, HOUR, 60, 58), (0, 3, 2 * HOUR - 1, 60, 58)]),
+    "refused-too-fast": lambda: shift(modules=2, states=[(0, REGULAR, 0), (1, REGULAR, 0), (1, NO_PRODUCT, HOUR)],
+                                      units=[(0, 3, HOUR, 400, 396), (1, 3, HOUR, 61, 61)]),
 }
 
 if __name__ == "__main__":

@@ -2,6 +2,7 @@
 
 use difftest::draft::Draft;
 use difftest::oracle::{account, read};
+use difftest::records::*;
 use std::fs;
 use std::path::PathBuf;
 
@@ -40,7 +41,7 @@ fn expected_output() {
             samples += 1;
         }
     }
-    assert_eq!(samples, 9);
+    assert_eq!(samples, 22);
 }
 
 /// 002, R1-1 and R1-2, as printed there.
@@ -119,4 +120,85 @@ fn etcher_by_each_standard() {
         output(&first_only.bytes()),
         bench_report("0.9405 0.8861 0.9524 0.9938 0.7887")
     );
+}
+
+/// As many records as a log may have, and every figure with a base: the longest log and the longest
+/// report.
+#[test]
+fn longest_log_and_report() {
+    let longest = log("longest");
+    assert_eq!(longest.len(), 62_618);
+    let header = Header {
+        period: LONGEST_PERIOD,
+        modules: MOST_MODULES,
+        states: MOST_STATES,
+        standards: MOST_STANDARDS,
+        units: MOST_UNITS,
+    };
+    assert_eq!(read(&longest).expect("well formed").header, header);
+    let report = output(&longest);
+    assert_eq!(report.len(), 2_494);
+    assert!(!report.contains('-'));
+    let cut = &longest[..longest.len() - 1];
+    let lengthened = [&longest[..], &[0]].concat();
+    assert_eq!(output(cut), "refused 5 list 0 at 0\n");
+    assert_eq!(output(&lengthened), "refused 5 list 0 at 0\n");
+}
+
+fn ascend<T: PartialOrd>(keys: impl Iterator<Item = T>) -> bool {
+    keys.is_sorted_by(|one, next| one < next)
+}
+
+/// The lists of the accepted samples ascend.
+#[test]
+fn lists_in_sequence() {
+    for name in [
+        "case-w",
+        "r1-1",
+        "r1-2",
+        "guidebook",
+        "etcher",
+        "wide",
+        "longest",
+    ] {
+        let log = read(&log(name)).expect("well formed");
+        assert!(
+            ascend(log.states.iter().map(|it| (it.time, it.module))),
+            "{name}"
+        );
+        assert!(
+            ascend(log.standards.iter().map(|it| (it.recipe, it.start))),
+            "{name}"
+        );
+        assert!(
+            ascend(log.units.iter().map(|it| (it.time, it.module, it.recipe))),
+            "{name}"
+        );
+    }
+}
+
+/// One sample for each number from 2 to 16.
+#[test]
+fn refused_by_number() {
+    let lines = [
+        ("period", "2 list 0 at 0"),
+        ("modules", "3 list 0 at 0"),
+        ("counts", "4 list 0 at 0"),
+        ("cut", "5 list 0 at 0"),
+        ("spare", "6 list 3 at 2"),
+        ("stray-module", "7 list 3 at 1"),
+        ("stray-code", "8 list 1 at 1"),
+        ("outside", "9 list 3 at 1"),
+        ("sequence", "10 list 1 at 2"),
+        ("no-opening", "11 list 0 at 1"),
+        ("no-time", "12 list 2 at 1"),
+        ("twice", "13 list 2 at 1"),
+        ("over-good", "14 list 3 at 0"),
+        ("no-standard", "15 list 3 at 1"),
+        ("too-fast", "16 list 0 at 1"),
+    ];
+    for (name, line) in lines {
+        let refused = log(&format!("refused-{name}"));
+        assert_eq!(output(&refused), format!("refused {line}\n"), "{name}");
+    }
 }
