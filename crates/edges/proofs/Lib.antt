@@ -1,2 +1,2 @@
-pub mod Encoded
+pub mod ByStretches
 pub mod StarredCases

@@ -1,7 +1,7 @@
 -- The thirteen starred cases of document 01, 'At the edges': each input, and what it must give. Definitions only.
-use Prim.Native.Nat.{ℕ, zero, suc}
+use Prim.Native.Nat.{ℕ}
 use mathlib.Core.Path.{_≡_}
-use mathlib.Core.List.{List, [], _∷_, _++_}
+use mathlib.Core.List.{List, [], _∷_}
 use lib.ListN.{replicate}
 use lib.Ieee.{Float}
 use Rattle.records.specs.declared.StateRecord.{StateRecord}
@@ -66,8 +66,8 @@ abbrev pub refused : ℕ → ℕ → ℕ → Verdict
 refused n l p = Refused (record { number = n; list = l; place = p })
 
 -- one module that is productive from 0 on
-abbrev pub productive : ℕ → Log
-productive period = log period 1 (state 0 0 0 ∷ []) [] []
+abbrev pub allProductive : ℕ → Log
+allProductive period = log period 1 (state 0 0 0 ∷ []) [] []
 
 -- so many modules, each productive from 0 on
 abbrev pub cluster : ℕ → ℕ → Log
@@ -89,8 +89,8 @@ cases =
     answers [] (refused 1 0 0)
     ∷ answers (replicate 9 0) (refused 1 0 0)
     -- 2. Period 31,622,400,000 passes; 31,622,400,001: 2.
-    ∷ answers (encode (productive 31622400000)) Accepted
-    ∷ answers (encode (productive 31622400001)) (refused 2 0 0)
+    ∷ answers (encode (allProductive 31622400000)) Accepted
+    ∷ answers (encode (allProductive 31622400001)) (refused 2 0 0)
     -- 3. 64 modules pass; 65: 3.
     ∷ answers (encode (cluster 64 64)) Accepted
     ∷ answers (encode (cluster 65 64)) (refused 3 0 0)
