@@ -1,2 +1,3 @@
 pub mod ByStretches
 pub mod StarredCases
+pub mod CaseWWhole

@@ -1,1 +1,1 @@
-// The starred edge cases of document 01, as one list in specs/ and one claim over it in proofs/.
+// The starred edge cases of document 01, as one list in specs/ and one claim over it in proofs/; and case W whole, from the bytes of its log to its report.
