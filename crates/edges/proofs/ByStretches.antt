@@ -22,10 +22,10 @@ use Rattle.rules.specs.Verdict.{headerGrounds, fastGround, anyOver, anyTimeOver
 use Rattle.rules.proofs.FirstGround.{then-accepted}
 use Rattle.states.proofs.Stretches.{stretches, accepted-by-stretches}
 use Rattle.report.specs.Report.{short, places, shown, figure, figures, heading, tool, moduleLine, toolLine, moduleLines, reportOf}
-use Rattle.tool_log.specs.Working.{Grounded}
-use Rattle.tool_log.specs.Reports.{reportText}
-use Rattle.tool_log.proofs.Accepted.{sound, none-over}
-use Rattle.tool_log.proofs.Judging.{counted}
+use Rattle.judging.specs.Working.{Grounded}
+use Rattle.reporting.specs.Reports.{reportText}
+use Rattle.judging.proofs.Accepted.{consistent, none-over}
+use Rattle.judging.proofs.Judging.{counted}
 
 -- ---- a module's quantities, and the tool's from its modules'
 
@@ -93,7 +93,7 @@ sums-by-stretches : (l : Log) → Grounded l → sumGrounds l ≡ firstOf (fastB
 unfolding sumGrounds fastGround
 sums-by-stretches l g =
     let fast = firstOf (fastGround l) (l .modules) in
-    then-same fast (ground 17 0 0 (anyOver (ofTool l) || anyTimeOver (toolTimes l))) Accepted (λ e. ap (ground 17 0 0) (none-over l (sound l g e)))
+    then-same fast (ground 17 0 0 (anyOver (ofTool l) || anyTimeOver (toolTimes l))) Accepted (λ e. ap (ground 17 0 0) (none-over l (consistent l g e)))
     ∙ then-accepted fast
     ∙ ap (λ (each : ℕ → Quantities). firstOf (λ m. ground 16 0 m (ltb (each m .production) (each m .actual))) (l .modules)) (same l (g .states))
 
@@ -116,4 +116,4 @@ verdict-by-stretches s =
     then-same (statesOf l) _ _ (λ states.
     then-same (standardGrounds (l .period) (l .standards)) _ _ (λ standards.
     then-same (unitGrounds (l .period) (l .modules) (l .standards) (l .units)) _ _ (λ units.
-    sums-by-stretches l (record { some = n .modules .0; few = n .modules .1; begun = n .period .0; short = n .period .1; states = states; units = units })))))
+    sums-by-stretches l (record { one-module = n .modules .0; few = n .modules .1; begun = n .period .0; short = n .period .1; states = states; units = units })))))

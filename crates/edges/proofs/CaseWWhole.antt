@@ -10,7 +10,7 @@ use Rattle.rules.specs.declared.Verdict.{Verdict}
 use Rattle.rules.specs.declared.Verdict.the-variants.{Accepted}
 use Rattle.rules.specs.Grounds.{ground, _then_}
 use Rattle.rules.specs.Verdict.{verdict}
-use Rattle.tool_log.specs.Reports.{reportText, verdictFor, writtenBy, writtenPart}
+use Rattle.reporting.specs.Reports.{reportText, verdictFor, writtenBy, writtenPart}
 use Rattle.edges.specs.CaseW.{caseW, caseWLog, caseWReport, CaseW}
 use Rattle.edges.proofs.ByStretches.{verdictBy, verdict-by-stretches, reportBy, report-by-stretches}
 

@@ -8,7 +8,7 @@ use Rattle.records.specs.Log.{Log, decode}
 use Rattle.rules.specs.declared.Verdict.the-variants.{Accepted}
 use Rattle.rules.specs.Verdict.{verdict}
 use Rattle.report.specs.Text.{ascii}
-use Rattle.tool_log.specs.Reports.{reportText, verdictFor, writtenPart}
+use Rattle.reporting.specs.Reports.{reportText, verdictFor, writtenPart}
 use Rattle.edges.specs.Cases.{state, standard, log, refused}
 
 -- the bytes of the log, a line for each record: the header, eight state records, one standard, three unit records

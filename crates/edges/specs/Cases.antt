@@ -17,7 +17,7 @@ use Rattle.rules.specs.Quantities.{actualTime, ofModule}
 use Rattle.rules.specs.Verdict.{verdict}
 use Rattle.report.specs.Text.{ascii}
 use Rattle.report.specs.Report.{figure, toolLine}
-use Rattle.tool_log.specs.Reports.{reportText}
+use Rattle.reporting.specs.Reports.{reportText}
 
 -- what is claimed of an input
 pub data Claim : Type 0 where

@@ -117,31 +117,3 @@ module _ (period modules m : ℕ) where
   unfolding stateGrounds ownTime
   accepted-by-stretches rs a =
       by-stretches period m rs (rises-on [] 0 rs (then-left (eachOf (stateGround period modules) rs) (firstOf (openingGround rs) modules) a) (omega arith))
-
--- the six times of module m
-abbrev pub times : List StateRecord → ℕ → ℕ → List ℕ
-times rs period m = upTo (stateTime rs period m) 6
-
-pub times-by-stretches : (rs : List StateRecord) (period m : ℕ) → T (rises rs period m 0) → times rs period m ≡ upTo (λ k. stretches rs period m k none 0) 6
-unfolding upTo
-times-by-stretches rs period m h = simp (by-stretches period m rs h)
-
--- ---- document 01's case W
-
-abbrev at : ℕ → ℕ → ℕ → StateRecord
-at m code time = record { «module» = m; code = code; time = time; spare = 0 }
-
-pub caseW : List StateRecord
-caseW = at 0 0 0 ∷ at 1 0 0 ∷ at 2 0 0 ∷ at 2 7 288000000 ∷ at 1 7 532800000 ∷ at 0 7 540000000 ∷ at 1 18 568800000 ∷ at 0 18 586800000 ∷ []
-
-pub case-w :
-    (times caseW 604800000 0 ≡ 540000000 ∷ 46800000 ∷ 0 ∷ 0 ∷ 18000000 ∷ 0 ∷ [])
-    × (times caseW 604800000 1 ≡ 532800000 ∷ 36000000 ∷ 0 ∷ 0 ∷ 36000000 ∷ 0 ∷ [])
-    × (times caseW 604800000 2 ≡ 288000000 ∷ 316800000 ∷ 0 ∷ 0 ∷ 0 ∷ 0 ∷ [])
-unfolding caseW upTo isState stateOf
-case-w = (times-by-stretches caseW 604800000 0 tt, times-by-stretches caseW 604800000 1 tt, times-by-stretches caseW 604800000 2 tt)
-
--- the longest period, whole in one state
-longest : times (at 0 23 0 ∷ []) 31622400000 0 ≡ 0 ∷ 0 ∷ 0 ∷ 0 ∷ 0 ∷ 31622400000 ∷ []
-unfolding upTo isState stateOf
-longest = times-by-stretches (at 0 23 0 ∷ []) 31622400000 0 tt

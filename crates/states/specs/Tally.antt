@@ -7,11 +7,12 @@ use lib.ListN.{getD}
 use Rattle.records.specs.declared.StateRecord.{StateRecord}
 use Rattle.rules.specs.declared.Verdict.{Verdict}
 use Rattle.rules.specs.declared.Verdict.the-variants.{Accepted}
+use Rattle.rules.specs.Names.{productive, standby, engineering}
 use Rattle.rules.specs.Time.{stateTime}
 use Rattle.rules.specs.RecordGrounds.{stateGrounds}
 
--- the answer r to the state records rs, with the totals T, six to a module, and the uptimes U: productive plus standby plus engineering, the states 0, 1 and 2
+-- the answer r to the state records rs, with the totals T, six to a module, and the uptimes U: productive plus standby plus engineering
 pub record Tallied (rs : List StateRecord) (period modules : ℕ) (r : Verdict) (T U : List ℕ) : Type 0 where
   pub answer : r ≡ stateGrounds period modules rs
   pub totals : r ≡ Accepted → (m k : ℕ) → m < modules → k < 6 → getD T (6 * m + k) 0 ≡ stateTime rs period m k
-  pub uptime : r ≡ Accepted → (m : ℕ) → m < modules → getD U m 0 ≡ stateTime rs period m 0 + stateTime rs period m 1 + stateTime rs period m 2
+  pub uptime : r ≡ Accepted → (m : ℕ) → m < modules → getD U m 0 ≡ stateTime rs period m productive + stateTime rs period m standby + stateTime rs period m engineering

@@ -3,15 +3,17 @@ ghost use mathlib.Core.Path.{_≡_};
 ghost use mathlib.Core.Bool.{true};
 ghost use mathlib.Core.List.{List};
 ghost use Prim.Native.Nat.{_+_, _*_, _^_, _<_, _≤_};
+ghost use lib.Dec.{leb};
 ghost use lib.ListN.{getD, replicate};
 ghost use Rattle.records.specs.declared.StateRecord.{StateRecord};
 ghost use Rattle.records.specs.Log.{stateAt, upTo};
 ghost use Rattle.records.specs.Covers.{Covers};
 ghost use Rattle.rules.specs.Grounds.{ground};
+ghost use Rattle.rules.specs.Names.{engineering};
 ghost use Rattle.rules.specs.Time.{states, stateOf};
 ghost use Rattle.rules.specs.RecordGrounds.{lastTime, ownTime, stateGround};
 ghost use Rattle.states.specs.Tally.{Tallied};
-ghost use Rattle.states.specs.Held.{fromOf, nextOf, totalsWith, uptimeIn, Held, Stepped, Scanned};
+ghost use Rattle.states.specs.Held.{fromOf, nextOf, totalsWith, uptimeIn, uptimesWith, Held, Stepped, Scanned};
 use records::Header;
 use records::StateRecord;
 use rules::Refusal;
@@ -66,21 +68,28 @@ fn state_of(table: &[u8; 24], code: usize) -> usize
     table[code] as usize
 }
 
-// Adds a stretch of `length` ms in a state to module m's total of it.
-fn add_stretch(totals: &mut [u64; 384], m: usize, state: usize, length: u64)
-    requires { ⌜ (m < 64) × (state < 6) × (getD (now totals) (6 * m + state) 0 + length < 2 ^ 64) ⌝ }
-    ensures { λ _. ⌜ now (totals .exit) ≡ totalsWith (now (totals .entry)) m state length ⌝ }
+// Whether a state counts as uptime, by the table's entry: productive, standby and engineering do.
+fn is_uptime(entry: usize) -> bool
+    ensures { λ r. ⌜ r ≡ leb entry engineering ⌝ }
 {
-    let at = 6 * m + state;
-    totals[at] += length;
+    entry <= ENGINEERING as usize
 }
 
-// Module m's uptime: its time in the states 0, 1 and 2, which are productive, standby and engineering.
-fn uptime_of(totals: &[u64; 384], m: usize) -> u64
-    requires { ⌜ (m < 64) × (uptimeIn (now totals) m < 2 ^ 64) ⌝ }
-    ensures { λ r. ⌜ r ≡ uptimeIn (now (totals .entry)) m ⌝ }
+// How much of a stretch of `length` ms is uptime, by the table's entry for its code. A value and not a branch, for the states come in any sequence.
+fn uptime_in(entry: usize, length: u64) -> u64
+    ensures { λ r. ⌜ r ≡ uptimeIn entry length ⌝ }
 {
-    totals[6 * m] + totals[6 * m + 1] + totals[6 * m + 2]
+    if is_uptime(entry) { length } else { 0 }
+}
+
+// Adds a stretch of `length` ms to module m's total of its state, which is the table's entry for its code, and to the uptime where that state counts.
+fn add_stretch(totals: &mut [u64; 384], uptime: &mut [u64; 64], m: usize, entry: usize, length: u64)
+    requires { ⌜ (m < 64) × (entry < 6) × (getD (now totals) (6 * m + entry) 0 + length < 2 ^ 64) × (getD (now uptime) m 0 + length < 2 ^ 64) ⌝ }
+    ensures { λ _. ⌜ (now (totals .exit) ≡ totalsWith (now (totals .entry)) m entry length) × (now (uptime .exit) ≡ uptimesWith (now (uptime .entry)) m entry length) ⌝ }
+{
+    let at = 6 * m + entry;
+    totals[at] += length;
+    uptime[m] += uptime_in(entry, length);
 }
 
 // State record i is refused.
@@ -125,7 +134,7 @@ fn test(r: StateRecord, i: usize, h: Header, from: u64, own: u64) -> Verdict
 }
 
 // Tests record i. Where it passes, its module's open stretch ends and the next begins. Of each module `latest` has, in one word, eight times the least time
-// that its next record may have, which is 0 where it has no record yet, and the state that it is in since its latest.
+// that its next record may have, which is 0 where it has no record yet, and the table's entry for the code of its latest: the state that it is in since.
 fn tally_record(
     table: &[u8; 24],
     log: &[u8],
@@ -133,14 +142,15 @@ fn tally_record(
     i: usize,
     from: &mut u64,
     totals: &mut [u64; 384],
+    uptime: &mut [u64; 64],
     latest: &mut [u64; 64],
     opened: &mut [bool; 64],
 ) -> Verdict
     requires { ⌜ now table ≡ states ⌝ }
     requires { ⌜ Covers (now log) (10 + 6 * i + 6) ⌝ }
     requires { ⌜ now from ≡ fromOf (lastTime (upTo (stateAt (now log)) i)) ⌝ }
-    requires { ⌜ Held (upTo (stateAt (now log)) i) (h .period) (now totals) (now latest) (now opened) ⌝ }
-    ensures { λ r. ⌜ Stepped (stateAt (now (log .entry))) (h .period) (h .modules) i r (now (from .exit)) (now (totals .exit)) (now (latest .exit)) (now (opened .exit)) ⌝ }
+    requires { ⌜ Held (upTo (stateAt (now log)) i) (h .period) (now totals) (now uptime) (now latest) (now opened) ⌝ }
+    ensures { λ r. ⌜ Stepped (stateAt (now (log .entry))) (h .period) (h .modules) i r (now (from .exit)) (now (totals .exit)) (now (uptime .exit)) (now (latest .exit)) (now (opened .exit)) ⌝ }
 {
     let r = records::state_within(log, i);
     let m = r.module;
@@ -154,7 +164,7 @@ fn tally_record(
     if own == 0 {
         opened[m] = t == 0;
     } else {
-        add_stretch(totals, m, (word % 8) as usize, t - (own - 1));
+        add_stretch(totals, uptime, m, (word % 8) as usize, t - (own - 1));
     }
     latest[m] = (t + 1) * 8 + state_of(table, r.code) as u64;
     *from = t;
@@ -167,18 +177,19 @@ fn tally_records(
     log: &[u8],
     h: Header,
     totals: &mut [u64; 384],
+    uptime: &mut [u64; 64],
     latest: &mut [u64; 64],
     opened: &mut [bool; 64],
 ) -> Verdict
     requires { ⌜ now table ≡ states ⌝ }
     requires { ⌜ Covers (now log) (10 + 6 * h .states) ⌝ }
-    requires { ⌜ Held (upTo (stateAt (now log)) 0) (h .period) (now totals) (now latest) (now opened) ⌝ }
-    ensures { λ r. ⌜ Scanned (stateAt (now (log .entry))) (h .period) (h .modules) (h .states) r (now (totals .exit)) (now (latest .exit)) (now (opened .exit)) ⌝ }
+    requires { ⌜ Held (upTo (stateAt (now log)) 0) (h .period) (now totals) (now uptime) (now latest) (now opened) ⌝ }
+    ensures { λ r. ⌜ Scanned (stateAt (now (log .entry))) (h .period) (h .modules) (h .states) r (now (totals .exit)) (now (uptime .exit)) (now (latest .exit)) (now (opened .exit)) ⌝ }
 {
     let states = h.states;
     let mut from = 0;
     for i in 0..states {
-        let v = tally_record(table, log, h, i, &mut from, totals, latest, opened);
+        let v = tally_record(table, log, h, i, &mut from, totals, uptime, latest, opened);
         if let Verdict::Refused(f) = v {
             return Verdict::Refused(f);
         }
@@ -201,7 +212,7 @@ pub fn tally_states(
     let table = STATES;
     let mut latest = [0u64; 64];
     let mut opened = [false; 64];
-    let v = tally_records(&table, log, h, totals, &mut latest, &mut opened);
+    let v = tally_records(&table, log, h, totals, uptime, &mut latest, &mut opened);
     if let Verdict::Refused(f) = v {
         return Verdict::Refused(f);
     }
@@ -215,8 +226,13 @@ pub fn tally_states(
             });
         }
         let word = latest[m];
-        add_stretch(totals, m, (word % 8) as usize, h.period - (word / 8 - 1));
-        uptime[m] = uptime_of(totals, m);
+        add_stretch(
+            totals,
+            uptime,
+            m,
+            (word % 8) as usize,
+            h.period - (word / 8 - 1),
+        );
     }
     Verdict::Accepted
 }
