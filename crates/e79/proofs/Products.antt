@@ -3,7 +3,8 @@ use mathlib.Core.Path.{_≡_, refl}
 use Prim.Native.Nat.{ℕ, zero, suc, _*_, _≤_, _<_}
 use native.Mathlib.Nat.{zero-lt-suc, lt-irrefl, zero-mul, mul-assoc, mul-comm, mul-left-comm, mul-pos}
 use native.Mathlib.Omega.{arith}
-use lib.Ieee.{Float}
+use lib.Ieee.{Float, binary64, fits}
+use lib.Ieee.Fits.{mul-fits}
 use lib.Dec.{lit≤}
 use Rattle.e79.specs.declared.Quantities.{Quantities}
 use Rattle.e79.specs.Quantities.{Ordered, based}
@@ -25,7 +26,7 @@ based-proper : (q : Quantities) → Ordered q → 0 < q .actual → Proper (left
 based-proper q h A =
     let P : 0 < q .production = omega arith in
     let U : 0 < q .uptime = omega arith in
-    proper (q .effective) (q .total) (mul-pos (mul-pos (mul-pos (h .begun) U) P) A) (h .begun) (cancel (q .total) (q .uptime) (q .production) (q .actual) (q .effective))
+    proper (q .effective) (q .total) (mul-fits binary64 _ _) (mul-pos (mul-pos (mul-pos (h .begun) U) P) A) (h .begun) (cancel (q .total) (q .uptime) (q .production) (q .actual) (q .effective))
     (four
     (quotient-within _ _ (record { part = h .uptime-total; few = h .few }) (h .begun))
     (quotient-within _ _ (record { part = h .production-uptime; few = omega arith }) U)
@@ -34,8 +35,9 @@ based-proper q h A =
 
 -- ---- 0 is the right product where nothing is effective
 nothing-proper : (n d : ℕ) → n ≡ 0 → Proper nothing n d
-unfolding off
+unfolding off fits
 nothing-proper n d z = record {
+  is-double = tt;
   is-finite = tt;
   from-zero = refl;
   to-one = lit≤ tt;
@@ -57,6 +59,7 @@ pub accurate : (q : Quantities) → Ordered q → Accurate q (figuresOf q)
 unfolding figuresOf
 accurate q h = record {
   computed = refl;
+  multiplied = refl;
   nearest = quotient-nearest (q .effective) (q .total) (record { part = omega arith; few = h .few }) (h .begun);
   proper = product-proper (q .total) (q .uptime) (q .production) (q .actual) (q .effective) h;
   availability-nearest = efficiency-nearest (q .uptime) (q .total) (record { part = h .uptime-total; few = h .few });

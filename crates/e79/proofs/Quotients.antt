@@ -5,6 +5,7 @@ use Prim.Native.Nat.{ℕ, zero, suc, _*_, _^_, _<_}
 use native.Mathlib.Nat.{le-trans, le-of-lt, mul-assoc, mul-comm, mul-left-comm, mul-pos, mul-one, zero-lt-suc}
 use lib.Dec.{T, eqb·suc-zero}
 use lib.Ieee.{Float, nan, inf, fin, Format, binary64, low, round, div, ofInt}
+use lib.Ieee.Fits.{round-fits}
 use lib.Ieee.Exact.{HasValue}
 use lib.Ieee.Back.{round-whole}
 use lib.Ieee.Scale.{grid, round-same, finite}
@@ -55,6 +56,7 @@ quotient-nearest n d p D =
     let v = round-value binary64 n d D (p .part) in
     rw (quotient-is n d p D)
     (record {
+      is-double = round-fits binary64 false n d;
       is-finite = plain-finite (round binary64 false n d) (grid binary64 n d) (2 ^ low binary64) v;
       nearest = λ y t f. round-nearest binary64 n d (round binary64 false n d) y D v t f;
     })

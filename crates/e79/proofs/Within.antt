@@ -6,9 +6,9 @@ use mathlib.Core.Bool.{true, false, true≢false}
 use Prim.Native.Nat.{ℕ, _+_, _*_, _^_, _≤_, _<_}
 use native.Mathlib.Nat.{le-trans, le-of-eq, le-of-lt, mul-assoc, mul-comm, mul-left-comm, mul-le-mul, mul-le-mul-left, mul-le-mul-right, le-of-mul-le-mul-left, le-of-mul-le-mul-right, mul-pos, mul-mul-mul-comm, eq-zero-or-pos, mul-add, le-mul-of-pos-right}
 use native.Mathlib.Omega.{arith}
-use lib.Dec.{lit≤}
+use lib.Dec.{T, lit≤}
 use lib.Pow.{pow-add, pow-pos, pow-mono}
-use lib.Ieee.{Float, nan, inf, fin, Format, binary64, low, up, round, mul}
+use lib.Ieee.{Float, nan, inf, fin, Format, binary64, fits, low, up, round, mul}
 use lib.Ieee.Fits.{down-pos}
 use lib.Ieee.Exact.{HasValue}
 use lib.Ieee.Scale.{grid}
@@ -129,12 +129,13 @@ is-zero w v h e = elim (eq-zero-or-pos w) [ inl z ↦ z | inr p ↦ absurd (no-z
     no-zero : (v : ℕ) → 0 < v → v ≡ 0 → ⊥
     no-zero v h e = omega arith
 
-seven-proper : (x : Float) (n d : ℕ) → 0 < d → Roundings 7 x n d → Proper x n d
+seven-proper : (x : Float) (n d : ℕ) → T (fits binary64 x) → 0 < d → Roundings 7 x n d → Proper x n d
 unfolding off
-seven-proper nan n d D s = absurd (s .plain)
-seven-proper (inf t) n d D s = absurd (s .plain)
-seven-proper (fin true m e) n d D s = absurd (true≢false (s .plain .0))
-seven-proper (fin false m e) n d D s = record {
+seven-proper nan n d f D s = absurd (s .plain)
+seven-proper (inf t) n d f D s = absurd (s .plain)
+seven-proper (fin true m e) n d f D s = absurd (true≢false (s .plain .0))
+seven-proper (fin false m e) n d f D s = record {
+  is-double = f;
   is-finite = tt;
   from-zero = refl;
   to-one = s .to-one;
@@ -143,7 +144,7 @@ seven-proper (fin false m e) n d D s = record {
 }
 
 -- a / c may be any fraction that equals n / d
-pub proper : {x : Float} {a c : ℕ} (n d : ℕ) → 0 < c → 0 < d → a * d ≡ n * c → Within 7 x a c → Proper x n d
-proper {x} n d C D e s =
+pub proper : {x : Float} {a c : ℕ} (n d : ℕ) → T (fits binary64 x) → 0 < c → 0 < d → a * d ≡ n * c → Within 7 x a c → Proper x n d
+proper {x} n d f C D e s =
     let r = s .rounded in
-    seven-proper x n d D (record { plain = r .plain; to-one = r .to-one; close = close-trans C (r .close) (close-same e) })
+    seven-proper x n d f D (record { plain = r .plain; to-one = r .to-one; close = close-trans C (r .close) (close-same e) })

@@ -12,7 +12,7 @@ use Rattle.e79.specs.declared.Quantities.{Quantities}
 use Rattle.e79.specs.declared.Efficiency.{Efficiency}
 use Rattle.e79.specs.declared.Efficiency.the-variants.{Ratio, NoBase}
 use Rattle.e79.specs.declared.Figures.{Figures}
-use Rattle.e79.specs.Doubles.{figuresOf}
+use Rattle.e79.specs.Doubles.{combined, leftToRight, figuresOf}
 
 -- |a - b|: one of the two differences is cut off at 0
 abbrev pub gap : ℕ → ℕ → ℕ
@@ -31,13 +31,15 @@ off (inf s) n d = 0
 off (fin false m e) n d = gap (num (fin false m e) * d) (n * den (fin false m e))
 off (fin true m e) n d = num (fin true m e) * d + n * den (fin true m e)
 
--- x is finite, and every finite double y lies at least as far from n / d: |x - n / d| ≤ |y - n / d|, times den x * den y * d
+-- x is a finite double, and every finite double y lies at least as far from n / d: |x - n / d| ≤ |y - n / d|, times den x * den y * d
 pub record Nearest (x : Float) (n d : ℕ) : Type 0 where
+  pub is-double : T (fits binary64 x)
   pub is-finite : T (finite x)
   pub nearest : (y : Float) → T (fits binary64 y) → T (finite y) → off x n d * den y ≤ off y n d * den x
 
--- x is finite and from 0 to 1, it is 0 exactly where n / d is, and it differs from n / d by at most one part in 2 ^ 50 of it: |x - n / d| * 2 ^ 50 ≤ n / d, times den x * d
+-- x is a finite double from 0 to 1, it is 0 exactly where n / d is, and it differs from n / d by at most one part in 2 ^ 50 of it: |x - n / d| * 2 ^ 50 ≤ n / d, times den x * d
 pub record Proper (x : Float) (n d : ℕ) : Type 0 where
+  pub is-double : T (fits binary64 x)
   pub is-finite : T (finite x)
   pub from-zero : negative x ≡ false
   pub to-one : num x ≤ den x
@@ -49,9 +51,10 @@ unfoldable pub NearestEfficiency : Efficiency → ℕ → ℕ → Type 0
 NearestEfficiency (Ratio x) n d = (0 < d) × Nearest x n d
 NearestEfficiency NoBase n d = d ≡ 0
 
--- what a set of doubles is promised to be: what it is computed as, and what it is worth
+-- what a set of doubles is promised to be: what it is computed as, with the product that of the four efficiencies in it, and what it is worth
 pub record Accurate (q : Quantities) (r : Figures) : Type 0 where
   pub computed : r ≡ figuresOf q
+  pub multiplied : r .product ≡ combined leftToRight (r .availability) (r .operational) (r .rate) (r .quality)
   pub nearest : Nearest (r .oee) (q .effective) (q .total)
   pub proper : Proper (r .product) (q .effective) (q .total)
   pub availability-nearest : NearestEfficiency (r .availability) (q .uptime) (q .total)
