@@ -17,15 +17,15 @@ use rules::Refusal;
 use rules::Verdict;
 
 // What looking up a standard answers: the standard in force, or none.
-pub enum Lookup {
+enum Lookup {
     Found(Standard),
     Nothing,
 }
 
 // The answer to the standards tested so far, and whether the starts of each recipe rise in list sequence.
-pub struct Listed {
-    pub verdict: Verdict,
-    pub rising: bool,
+struct Listed {
+    verdict: Verdict,
+    rising: bool,
 }
 
 fn refused(number: usize, list: usize, place: usize) -> Verdict
