@@ -17,8 +17,8 @@ use Rattle.rules.specs.Verdict.{verdict, verdictOn}
 use Rattle.answering.specs.Calls.{OnModule}
 use Rattle.rules.specs.Refusals.{OfLog}
 use Rattle.reporting.specs.Reports.{verdictFor, ForRoom}
-use Rattle.tool_log_c.specs.Arrays.{timesOf, quantitiesOf, ratiosOf, basesOf}
-use Rattle.tool_log_c.specs.Told.{answerOr, Told}
+use Rattle.telling.specs.Arrays.{timesOf, quantitiesOf, ratiosOf, basesOf}
+use Rattle.telling.specs.Told.{answerOr, Told}
 
 -- what is promised of the value where the verdict accepts, and what a refusal may be
 pub record Promised (v : Verdict) (Promise : Type 0) (Allowed : Refusal → Type 0) : Type 0 where

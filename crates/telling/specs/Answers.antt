@@ -11,7 +11,7 @@ use Rattle.answering.specs.declared.QuantitiesAnswer.{QuantitiesAnswer}
 use Rattle.answering.specs.declared.QuantitiesAnswer.the-variants as quantities
 use Rattle.answering.specs.declared.FiguresAnswer.{FiguresAnswer}
 use Rattle.answering.specs.declared.FiguresAnswer.the-variants as figures
-use Rattle.tool_log_c.specs.Arrays.{timesOf, quantitiesOf, ratiosOf, basesOf}
+use Rattle.telling.specs.Arrays.{timesOf, quantitiesOf, ratiosOf, basesOf}
 
 -- ---- state times
 

@@ -1,9 +1,9 @@
--- `tool_log_c::tell` meets its contract: each verdict has its own arm.
+-- `telling::tell` meets its contract: each verdict has its own arm.
 -- Assumes nothing.
 use borrow.Author.Needs.{needs}
 use mathlib.Core.Path.{refl}
-use Rattle.tool_log_c.proofs.tell.Statement.{statement}
-use Rattle.tool_log_c.proofs.tell.Tie as tie
+use Rattle.telling.proofs.tell.Statement.{statement}
+use Rattle.telling.proofs.tell.Tie as tie
 
 returns : tie.Need-returns
 returns c = search needs

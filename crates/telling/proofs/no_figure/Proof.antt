@@ -1,9 +1,9 @@
--- `tool_log_c::no_figure` meets its contract: IEEE 754 divides zero by zero to NaN.
+-- `telling::no_figure` meets its contract: IEEE 754 divides zero by zero to NaN.
 -- Assumes nothing.
 use mathlib.Core.Path.{refl}
 use lib.Ieee.{ofBits, div}
-use Rattle.tool_log_c.proofs.no_figure.Statement.{statement}
-use Rattle.tool_log_c.proofs.no_figure.Tie as tie
+use Rattle.telling.proofs.no_figure.Statement.{statement}
+use Rattle.telling.proofs.no_figure.Tie as tie
 
 returns : tie.Need-returns
 unfolding ofBits div

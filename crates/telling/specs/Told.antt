@@ -5,7 +5,7 @@ use mathlib.Core.List.{List}
 use Prim.Native.Nat.{ℕ}
 use Rattle.rules.specs.declared.Verdict.{Verdict}
 use Rattle.rules.specs.declared.Verdict.the-variants.{Accepted, Refused}
-use Rattle.tool_log_c.specs.Arrays.{refusalOf}
+use Rattle.telling.specs.Arrays.{refusalOf}
 
 -- 1 where the verdict accepts, else 0
 abbrev pub flagOf : Verdict → ℕ
