@@ -3,6 +3,7 @@ pub mod Count
 pub mod OneMore
 pub mod SixTimes
 pub mod Stretches
+pub mod Uptime
 pub mod Sums
 pub mod Sound
 pub mod Pass

@@ -1,5 +1,5 @@
 -- The pass keeps what `Held` says: a record that passes its tests ends its module's open stretch, whose length its counters grow by, and begins the next. At the end each
--- module's last stretch ends with the period, so that its counters are its state times and its uptime.
+-- module's last stretch ends with the period, so that its counters are its state times.
 -- Assumes nothing.
 use mathlib.Core.Path.{_≡_, refl, sym, _∙_}
 use mathlib.Core.Bool.{Bool, true, false}
@@ -21,11 +21,11 @@ use Rattle.rules.specs.Time.{stateOf, codeAt, isState, count, stateTime}
 use Rattle.rules.specs.RecordGrounds.{ownTime, firstTime, isOpening, stateGround, openingGround, stateGrounds}
 use Rattle.rules.proofs.FirstGround.{first-none, first-more, first-stop}
 use Rattle.states.specs.Tally.{Tallied}
-use Rattle.states.specs.Held.{nextOf, totalsWith, uptimesWith, Unseen, Open, Stretch, fresh, running, Sums, Module, Modules, Held}
+use Rattle.states.specs.Held.{nextOf, totalsWith, uptimeIn, Unseen, Open, Stretch, fresh, running, Sums, Module, Modules, Held}
 use Rattle.states.proofs.OneMore.{code-from, time-before, own-time, first-new, first-stays, code-other, time-other, own-other, first-other}
 use Rattle.states.proofs.Sound.{Sound}
 use Rattle.states.proofs.Table.{state-low}
-use Rattle.states.proofs.Sums.{Runs, grows, sums-as, sums-own, sums-other, total-length, uptime-length}
+use Rattle.states.proofs.Sums.{Runs, grows, sums-as, sums-own, sums-other, total-length, uptime-sum}
 
 -- a record's module and time by their widths
 pub module-low : (s : List ℕ) (i : ℕ) → stateAt s i .«module» < 64
@@ -113,7 +113,7 @@ module _ (rs : List StateRecord) (r : StateRecord) where
           });
         }
 
-    module _ {T U P : List ℕ} {O : List Bool} (H : Held rs period T U P O) (h : r .«module» < 64) where
+    module _ {T P : List ℕ} {O : List Bool} (H : Held rs period T P O) (h : r .«module» < 64) where
       -- the word of the record's module after it
       abbrev word : ℕ
       word = (r .time + 1) * 8 + stateOf (r .code)
@@ -125,15 +125,14 @@ module _ (rs : List StateRecord) (r : StateRecord) where
           rw (getD-set-same P (r .«module») word 0 a) (word-next (r .time + 1) (stateOf (r .code)) low, word-state (r .time + 1) (stateOf (r .code)) low)
 
       -- what is held after the record, by what is known of its own module's totals and of the others'
-      held-more : (T⁺ U⁺ : List ℕ) (O⁺ : List Bool) → length T⁺ ≡ 384 → length U⁺ ≡ 64 → length O⁺ ≡ 64
+      held-more : (T⁺ : List ℕ) (O⁺ : List Bool) → length T⁺ ≡ 384 → length O⁺ ≡ 64
           → Module (rs ++ (r ∷ [])) period (r .«module») (r .time + 1) (stateOf (r .code)) (getD O⁺ (r .«module») false)
-          → Sums (rs ++ (r ∷ [])) T⁺ U⁺ (r .«module») (r .time)
+          → Sums (rs ++ (r ∷ [])) T⁺ (r .«module») (r .time)
           → ((x : ℕ) → (r .«module» ≡ x → ⊥) → getD O⁺ x false ≡ getD O x false)
-          → ((x v : ℕ) → (r .«module» ≡ x → ⊥) → Sums rs T U x v → Sums rs T⁺ U⁺ x v)
-          → Held (rs ++ (r ∷ [])) period T⁺ U⁺ (set P (r .«module») word) O⁺
-      held-more T⁺ U⁺ O⁺ long wide many own sums others-opened others = record {
+          → ((x v : ℕ) → (r .«module» ≡ x → ⊥) → Sums rs T x v → Sums rs T⁺ x v)
+          → Held (rs ++ (r ∷ [])) period T⁺ (set P (r .«module») word) O⁺
+      held-more T⁺ O⁺ long many own sums others-opened others = record {
         totals = long;
-        uptimes = wide;
         modules = record {
           words = length-set P _ _ ∙ H .modules .words;
           opened = many;
@@ -149,7 +148,7 @@ module _ (rs : List StateRecord) (r : StateRecord) where
               rw (getD-set-other P (r .«module») x word 0 (λ q. ne (sym q)), others-opened x ne)
               (module-other ne (H .modules .each x l))
 
-          run : (x : ℕ) → x < 64 → Dec (r .«module» ≡ x) → Sums (rs ++ (r ∷ [])) T⁺ U⁺ x (getD (set P (r .«module») word) x 0 / 8 - 1)
+          run : (x : ℕ) → x < 64 → Dec (r .«module» ≡ x) → Sums (rs ++ (r ∷ [])) T⁺ x (getD (set P (r .«module») word) x 0 / 8 - 1)
           run x l (yes e) =
               let d : r .time + 1 - 1 ≡ r .time = omega arith in
               rw (← e, word-of .0, d) sums
@@ -158,7 +157,7 @@ module _ (rs : List StateRecord) (r : StateRecord) where
               (sums-as (time-other rs r x ne _) (others x _ ne (H .sums x l)))
 
       -- a module's first record: no time of any state has passed
-      pub held-first : getD P (r .«module») 0 / 8 ≡ 0 → Held (rs ++ (r ∷ [])) period T U (set P (r .«module») word) (set O (r .«module») (eqb (r .time) 0))
+      pub held-first : getD P (r .«module») 0 / 8 ≡ 0 → Held (rs ++ (r ∷ [])) period T (set P (r .«module») word) (set O (r .«module») (eqb (r .time) 0))
       unfolding isState
       held-first z =
           let k = is-unseen (H .modules .each (r .«module») h .stretch) z in
@@ -166,7 +165,7 @@ module _ (rs : List StateRecord) (r : StateRecord) where
           let u : getD P (r .«module») 0 / 8 - 1 ≡ 0 = omega (arith, z) in
           let first = first-new rs r (k .first) in
           let idle : Runs rs (r .«module») none 0 (r .time) = record { from = omega arith; same = λ x l b. k .code x } in
-          held-more T U _ (H .totals) (H .uptimes) (length-set O _ _ ∙ H .modules .opened)
+          held-more T _ (H .totals) (length-set O _ _ ∙ H .modules .opened)
           (module-own _ (rw (getD-set-same O (r .«module») (eqb (r .time) 0) false a, first)) (rw first tt))
           (sums-as (λ k. time-before rs r (r .«module») k ∙ grows idle k ∙ omega arith) (rw u at (H .sums (r .«module») h)))
           (λ x ne. getD-set-other O (r .«module») x _ false (λ q. ne (sym q)))
@@ -179,7 +178,6 @@ module _ (rs : List StateRecord) (r : StateRecord) where
 
         pub held-next : Held (rs ++ (r ∷ [])) period
             (totalsWith T (r .«module») (getD P (r .«module») 0 % 8) (r .time - (getD P (r .«module») 0 / 8 - 1)))
-            (uptimesWith U (r .«module») (getD P (r .«module») 0 % 8) (r .time - (getD P (r .«module») 0 / 8 - 1)))
             (set P (r .«module») word)
             O
         held-next =
@@ -187,22 +185,20 @@ module _ (rs : List StateRecord) (r : StateRecord) where
             let k = is-open (H .modules .each (r .«module») h .stretch) pos in
             let stays = first-stays rs r (r .«module») (k .first) in
             let runs : Runs rs (r .«module») (some (k .latest)) (getD P (r .«module») 0 / 8 - 1) (r .time) = record { from = since; same = λ x l b. k .code x l } in
-            held-more _ _ O
-            (total-length T U (H .totals) (H .uptimes) _ _ _ h low)
-            (uptime-length T U (H .totals) (H .uptimes) _ _ _ h low)
+            held-more _ O
+            (total-length T (H .totals) _ _ _ h low)
             (H .modules .opened)
             (module-own _ (rw stays (k .opening)) (rw stays (k .first)))
-            (sums-as (time-before rs r (r .«module»)) (sums-own T U (H .totals) (H .uptimes) _ _ _ h low (k .state) refl runs (H .sums (r .«module») h)))
+            (sums-as (time-before rs r (r .«module»)) (sums-own T (H .totals) _ _ _ h low (k .state) refl runs (H .sums (r .«module») h)))
             (λ x ne. refl)
-            (λ x v ne s. sums-other T U (H .totals) (H .uptimes) _ _ _ h low ne s)
+            (λ x v ne s. sums-other T (H .totals) _ _ _ h low ne s)
 
 -- ---- before the first record
 
-pub held-none : (at : ℕ → StateRecord) (period : ℕ) → Held (upTo at 0) period (replicate 384 0) (replicate 64 0) (replicate 64 0) (replicate 64 false)
+pub held-none : (at : ℕ → StateRecord) (period : ℕ) → Held (upTo at 0) period (replicate 384 0) (replicate 64 0) (replicate 64 false)
 unfolding upTo ownTime firstTime codeAt stateTime count
 held-none at period = record {
   totals = length-replicate {A = ℕ} 384 0;
-  uptimes = length-replicate {A = ℕ} 64 0;
   modules = record {
     words = length-replicate {A = ℕ} 64 0;
     opened = length-replicate 64 false;
@@ -212,28 +208,28 @@ held-none at period = record {
       stretch = fresh (record { next = refl; opening = refl; own = refl; first = refl; code = λ t. refl });
     });
   };
-  sums = λ m h. rw (getD-replicate {A = ℕ} 64 m 0 0 h) (record { totals = λ k l. getD-replicate {A = ℕ} 384 (6 * m + k) 0 0 (omega arith); uptime = getD-replicate {A = ℕ} 64 m 0 0 h });
+  sums = λ m h. rw (getD-replicate {A = ℕ} 64 m 0 0 h) (record { totals = λ k l. getD-replicate {A = ℕ} 384 (6 * m + k) 0 0 (omega arith) });
 }
 
 -- ---- the modules, at the end of the period
 
--- the modules below d are opened, and their last stretches are closed
+-- the modules below d are opened, their last stretches are closed, and their uptimes are summed
 pub record Finishing (rs : List StateRecord) (period modules d : ℕ) (T U P : List ℕ) (O : List Bool) : Type 0 where
   pub records : eachOf (stateGround period modules) rs ≡ Accepted
   pub openings : firstOf (openingGround rs) d ≡ Accepted
   pub totals : length T ≡ 384
-  pub uptimes : length U ≡ 64
+  pub uptime : length U ≡ 64
   pub modules-held : Modules rs period P O
-  pub done : (m : ℕ) → m < d → Sums rs T U m period
-  pub rest : (m : ℕ) → d ≤ m → m < 64 → Sums rs T U m (getD P m 0 / 8 - 1)
+  pub done : (m : ℕ) → m < d → (Sums rs T m period) × (getD U m 0 ≡ stateTime rs period m 0 + stateTime rs period m 1 + stateTime rs period m 2)
+  pub rest : (m : ℕ) → d ≤ m → m < 64 → Sums rs T m (getD P m 0 / 8 - 1)
 
 module _ {rs : List StateRecord} {period modules : ℕ} {T U P : List ℕ} {O : List Bool} where
-  pub finish-start : eachOf (stateGround period modules) rs ≡ Accepted → Held rs period T U P O → Finishing rs period modules 0 T U P O
-  finish-start a H = record {
+  pub finish-start : eachOf (stateGround period modules) rs ≡ Accepted → length U ≡ 64 → Held rs period T P O → Finishing rs period modules 0 T U P O
+  finish-start a wide H = record {
     records = a;
     openings = first-none (openingGround rs);
     totals = H .totals;
-    uptimes = H .uptimes;
+    uptime = wide;
     modules-held = H .modules;
     done = λ m h. absurd (omega arith);
     rest = λ m l h. H .sums m h;
@@ -257,35 +253,42 @@ module _ {rs : List StateRecord} {period modules : ℕ} {T U P : List ℕ} {O : 
       pub opened-since : (0 < getD P d 0 / 8) × (getD P d 0 / 8 ≤ period)
       opened-since = (stretch-of .next, F .modules-held .each d h .early)
 
-      abbrev last : ℕ
-      last = period - (getD P d 0 / 8 - 1)
+      abbrev closed : List ℕ
+      closed = totalsWith T d (getD P d 0 % 8) (period - (getD P d 0 / 8 - 1))
 
-      pub finish-more : Finishing rs period modules (d + 1) (totalsWith T d (getD P d 0 % 8) last) (uptimesWith U d (getD P d 0 % 8) last) P O
+      pub closed-sums : Sums rs closed d period
+      closed-sums =
+          sums-own T (F .totals) _ _ _ h (F .modules-held .each d h .low) (stretch-of .state) refl
+          (record { from = omega (arith, opened-since .1); same = λ x l b. stretch-of .code x l })
+          (F .rest d (omega arith) h)
+
+      pub finish-more : Finishing rs period modules (d + 1) closed (set U d (uptimeIn closed d)) P O
       unfolding openingGround
       finish-more =
           let low = F .modules-held .each d h .low in
           record {
             records = F .records;
             openings = first-more (openingGround rs) d (F .openings) (rw (← opening-is, e) refl);
-            totals = total-length T U (F .totals) (F .uptimes) _ _ _ h low;
-            uptimes = uptime-length T U (F .totals) (F .uptimes) _ _ _ h low;
+            totals = total-length T (F .totals) _ _ _ h low;
+            uptime = length-set U _ _ ∙ F .uptime;
             modules-held = F .modules-held;
             done = λ m l. pick m l low (ℕ-discrete d m);
-            rest = λ m l b. sums-other T U (F .totals) (F .uptimes) _ _ _ h low (λ z. absurd (omega arith)) (F .rest m (omega arith) b);
+            rest = λ m l b. sums-other T (F .totals) _ _ _ h low (λ z. absurd (omega arith)) (F .rest m (omega arith) b);
           }
         where
-          pick : (m : ℕ) → m < d + 1 → getD P d 0 % 8 < 6 → Dec (d ≡ m) → Sums rs (totalsWith T d (getD P d 0 % 8) last) (uptimesWith U d (getD P d 0 % 8) last) m period
+          pick : (m : ℕ) → m < d + 1 → getD P d 0 % 8 < 6 → Dec (d ≡ m)
+              → (Sums rs closed m period) × (getD (set U d (uptimeIn closed d)) m 0 ≡ stateTime rs period m 0 + stateTime rs period m 1 + stateTime rs period m 2)
           pick m l low (yes q) =
-              rw (← q)
-              (sums-own T U (F .totals) (F .uptimes) _ _ _ h low (stretch-of .state) refl
-              (record { from = omega (arith, opened-since .1); same = λ x l b. stretch-of .code x l })
-              (F .rest d (omega arith) h))
-          pick m l low (no ne) = sums-other T U (F .totals) (F .uptimes) _ _ _ h low ne (F .done m (omega (arith, ne)))
+              let a : d < length U = omega (arith, F .uptime) in
+              rw (← q) (closed-sums, getD-set-same U d _ 0 a ∙ uptime-sum closed-sums)
+          pick m l low (no ne) =
+              let old = F .done m (omega (arith, ne)) in
+              (sums-other T (F .totals) _ _ _ h low ne (old .0), getD-set-other U d m _ 0 (λ z. ne (sym z)) ∙ old .1)
 
   pub finish-all : Finishing rs period modules modules T U P O → Tallied rs period modules Accepted T U
   unfolding stateGrounds
   finish-all F = record {
     answer = rw (F .records, F .openings);
-    totals = λ _ m k h l. F .done m h .totals k l;
-    uptime = λ _ m h. F .done m h .uptime;
+    totals = λ _ m k h l. F .done m h .0 .totals k l;
+    uptime = λ _ m h. F .done m h .1;
   }

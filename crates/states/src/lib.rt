@@ -3,17 +3,15 @@ ghost use mathlib.Core.Path.{_≡_};
 ghost use mathlib.Core.Bool.{true};
 ghost use mathlib.Core.List.{List};
 ghost use Prim.Native.Nat.{_+_, _*_, _^_, _<_, _≤_};
-ghost use lib.Dec.{leb};
 ghost use lib.ListN.{getD, replicate};
 ghost use Rattle.records.specs.declared.StateRecord.{StateRecord};
 ghost use Rattle.records.specs.Log.{stateAt, upTo};
 ghost use Rattle.records.specs.Covers.{Covers};
 ghost use Rattle.rules.specs.Grounds.{ground};
-ghost use Rattle.rules.specs.Names.{engineering};
 ghost use Rattle.rules.specs.Time.{states, stateOf};
 ghost use Rattle.rules.specs.RecordGrounds.{lastTime, ownTime, stateGround};
 ghost use Rattle.states.specs.Tally.{Tallied};
-ghost use Rattle.states.specs.Held.{fromOf, nextOf, totalsWith, uptimeIn, uptimesWith, Held, Stepped, Scanned};
+ghost use Rattle.states.specs.Held.{fromOf, nextOf, totalsWith, isUptime, uptimeMarks, uptimeIn, Held, Stepped, Scanned};
 use records::Header;
 use records::StateRecord;
 use rules::Refusal;
@@ -68,28 +66,47 @@ fn state_of(table: &[u8; 24], code: usize) -> usize
     table[code] as usize
 }
 
-// Whether a state counts as uptime, by the table's entry: productive, standby and engineering do.
+// Adds a stretch of `length` ms in a state to module m's total of it.
+fn add_stretch(totals: &mut [u64; 384], m: usize, state: usize, length: u64)
+    requires { ⌜ (m < 64) × (state < 6) × (getD (now totals) (6 * m + state) 0 + length < 2 ^ 64) ⌝ }
+    ensures { λ _. ⌜ now (totals .exit) ≡ totalsWith (now (totals .entry)) m state length ⌝ }
+{
+    let at = 6 * m + state;
+    totals[at] += length;
+}
+
+// Whether a state counts as uptime, by the table's entry for a code: productive, standby and engineering do.
 fn is_uptime(entry: usize) -> bool
-    ensures { λ r. ⌜ r ≡ leb entry engineering ⌝ }
+    ensures { λ r. ⌜ r ≡ isUptime entry ⌝ }
 {
     entry <= ENGINEERING as usize
 }
 
-// How much of a stretch of `length` ms is uptime, by the table's entry for its code. A value and not a branch, for the states come in any sequence.
-fn uptime_in(entry: usize, length: u64) -> u64
-    ensures { λ r. ⌜ r ≡ uptimeIn entry length ⌝ }
+// For each state whether it counts as uptime, read from the table's entries.
+fn uptime_states(table: &[u8; 24]) -> [bool; 6]
+    requires { ⌜ now table ≡ states ⌝ }
+    ensures { λ r. ⌜ r ≡ uptimeMarks 24 ⌝ }
 {
-    if is_uptime(entry) { length } else { 0 }
+    let mut counts = [false; 6];
+    for code in 0..24 {
+        let entry = state_of(table, code);
+        counts[entry] = is_uptime(entry);
+    }
+    counts
 }
 
-// Adds a stretch of `length` ms to module m's total of its state, which is the table's entry for its code, and to the uptime where that state counts.
-fn add_stretch(totals: &mut [u64; 384], uptime: &mut [u64; 64], m: usize, entry: usize, length: u64)
-    requires { ⌜ (m < 64) × (entry < 6) × (getD (now totals) (6 * m + entry) 0 + length < 2 ^ 64) × (getD (now uptime) m 0 + length < 2 ^ 64) ⌝ }
-    ensures { λ _. ⌜ (now (totals .exit) ≡ totalsWith (now (totals .entry)) m entry length) × (now (uptime .exit) ≡ uptimesWith (now (uptime .entry)) m entry length) ⌝ }
+// Module m's uptime: its time in the states that count.
+fn uptime_of(totals: &[u64; 384], counts: &[bool; 6], m: usize) -> u64
+    requires { ⌜ (m < 64) × (now counts ≡ uptimeMarks 24) × (uptimeIn (now totals) m < 2 ^ 64) ⌝ }
+    ensures { λ r. ⌜ r ≡ uptimeIn (now (totals .entry)) m ⌝ }
 {
-    let at = 6 * m + entry;
-    totals[at] += length;
-    uptime[m] += uptime_in(entry, length);
+    let mut sum: u64 = 0;
+    for k in 0..6 {
+        if counts[k] {
+            sum += totals[6 * m + k];
+        }
+    }
+    sum
 }
 
 // State record i is refused.
@@ -142,15 +159,14 @@ fn tally_record(
     i: usize,
     from: &mut u64,
     totals: &mut [u64; 384],
-    uptime: &mut [u64; 64],
     latest: &mut [u64; 64],
     opened: &mut [bool; 64],
 ) -> Verdict
     requires { ⌜ now table ≡ states ⌝ }
     requires { ⌜ Covers (now log) (10 + 6 * i + 6) ⌝ }
     requires { ⌜ now from ≡ fromOf (lastTime (upTo (stateAt (now log)) i)) ⌝ }
-    requires { ⌜ Held (upTo (stateAt (now log)) i) (h .period) (now totals) (now uptime) (now latest) (now opened) ⌝ }
-    ensures { λ r. ⌜ Stepped (stateAt (now (log .entry))) (h .period) (h .modules) i r (now (from .exit)) (now (totals .exit)) (now (uptime .exit)) (now (latest .exit)) (now (opened .exit)) ⌝ }
+    requires { ⌜ Held (upTo (stateAt (now log)) i) (h .period) (now totals) (now latest) (now opened) ⌝ }
+    ensures { λ r. ⌜ Stepped (stateAt (now (log .entry))) (h .period) (h .modules) i r (now (from .exit)) (now (totals .exit)) (now (latest .exit)) (now (opened .exit)) ⌝ }
 {
     let r = records::state_within(log, i);
     let m = r.module;
@@ -164,7 +180,7 @@ fn tally_record(
     if own == 0 {
         opened[m] = t == 0;
     } else {
-        add_stretch(totals, uptime, m, (word % 8) as usize, t - (own - 1));
+        add_stretch(totals, m, (word % 8) as usize, t - (own - 1));
     }
     latest[m] = (t + 1) * 8 + state_of(table, r.code) as u64;
     *from = t;
@@ -177,19 +193,18 @@ fn tally_records(
     log: &[u8],
     h: Header,
     totals: &mut [u64; 384],
-    uptime: &mut [u64; 64],
     latest: &mut [u64; 64],
     opened: &mut [bool; 64],
 ) -> Verdict
     requires { ⌜ now table ≡ states ⌝ }
     requires { ⌜ Covers (now log) (10 + 6 * h .states) ⌝ }
-    requires { ⌜ Held (upTo (stateAt (now log)) 0) (h .period) (now totals) (now uptime) (now latest) (now opened) ⌝ }
-    ensures { λ r. ⌜ Scanned (stateAt (now (log .entry))) (h .period) (h .modules) (h .states) r (now (totals .exit)) (now (uptime .exit)) (now (latest .exit)) (now (opened .exit)) ⌝ }
+    requires { ⌜ Held (upTo (stateAt (now log)) 0) (h .period) (now totals) (now latest) (now opened) ⌝ }
+    ensures { λ r. ⌜ Scanned (stateAt (now (log .entry))) (h .period) (h .modules) (h .states) r (now (totals .exit)) (now (latest .exit)) (now (opened .exit)) ⌝ }
 {
     let states = h.states;
     let mut from = 0;
     for i in 0..states {
-        let v = tally_record(table, log, h, i, &mut from, totals, uptime, latest, opened);
+        let v = tally_record(table, log, h, i, &mut from, totals, latest, opened);
         if let Verdict::Refused(f) = v {
             return Verdict::Refused(f);
         }
@@ -212,10 +227,11 @@ pub fn tally_states(
     let table = STATES;
     let mut latest = [0u64; 64];
     let mut opened = [false; 64];
-    let v = tally_records(&table, log, h, totals, uptime, &mut latest, &mut opened);
+    let v = tally_records(&table, log, h, totals, &mut latest, &mut opened);
     if let Verdict::Refused(f) = v {
         return Verdict::Refused(f);
     }
+    let counts = uptime_states(&table);
     let modules = h.modules;
     for m in 0..modules {
         if !opened[m] {
@@ -226,13 +242,8 @@ pub fn tally_states(
             });
         }
         let word = latest[m];
-        add_stretch(
-            totals,
-            uptime,
-            m,
-            (word % 8) as usize,
-            h.period - (word / 8 - 1),
-        );
+        add_stretch(totals, m, (word % 8) as usize, h.period - (word / 8 - 1));
+        uptime[m] = uptime_of(totals, &counts, m);
     }
     Verdict::Accepted
 }

@@ -15,7 +15,7 @@ use Rattle.rules.proofs.FirstGround.{refused-not}
 use Rattle.states.proofs.OneMore.{last-more}
 use Rattle.states.proofs.Sound.{Sound, sound}
 use Rattle.states.proofs.Pass.{module-low, time-low, next-own, held-first, since, held-next}
-use Rattle.states.proofs.Sums.{room, uptime-room}
+use Rattle.states.proofs.Sums.{room}
 use Rattle.states.proofs.tally_record.Statement.{statement}
 use Rattle.states.proofs.tally_record.Tie as tie
 
@@ -67,12 +67,11 @@ later c =
 
 add-stretch-requires : tie.Need-add-stretch-requires
 add-stretch-requires c κs =
-    let e = c .before .before in
+    let e = c .before in
     let q = read (e .before) in
     let H = q .before .before .pre .1 .1 .1 in
     let low = H .modules .each _ (module-below q) .low in
-    let sums = H .sums _ (module-below q) in
-    (module-below q, low, room sums _ (omega (arith, later e, time-below q)) _ low, uptime-room sums _ (omega (arith, later e, time-below q)))
+    (module-below q, low, room (H .sums _ (module-below q)) _ low _ (omega (arith, later e, time-below q)))
 
 state-of-requires : tie.Need-state-of-requires
 state-of-requires c κs = (read (c .before) .before .before .pre .0, is-sound (c .before) .low)
@@ -88,8 +87,8 @@ returns-2 c =
       from = λ _. rw (up-to-more (stateAt (s .args .log .now)) (s .args .i), ← q .state-within .ensures, last-more (earlier s) (q .state-within .result));
       held = λ _. rw (up-to-more (stateAt (s .args .log .now)) (s .args .i), ← q .state-within .ensures, c .state-of .ensures .0)
           (⊎-elim
-          (λ w. rw (w .1, w .2, w .3) (held-first _ _ (is-sound a) (s .pre .1 .1 .1) (module-below q) (w .0 .taken)))
-          (λ w. rw (w .4, w .5, w .6, w .3 .ensures .0, w .3 .ensures .1) (held-next _ _ (is-sound a) (s .pre .1 .1 .1) (module-below q) (w .0 .left)))
+          (λ w. rw (w .1, w .2) (held-first _ _ (is-sound a) (s .pre .1 .1 .1) (module-below q) (w .0 .taken)))
+          (λ w. rw (w .3, w .4, w .2 .ensures) (held-next _ _ (is-sound a) (s .pre .1 .1 .1) (module-below q) (w .0 .left)))
           (j .if1 .came));
     }
 
@@ -106,7 +105,7 @@ tally-record-spec =
     (λ c. search needs)
     (λ c. module-below (read (c .before)))
     (λ c. search needs)
-    (λ c. later (c .before .before))
+    (λ c. later (c .before))
     add-stretch-requires
     (λ c. omega (arith, time-below (read (c .before))))
     (λ c. omega (arith, time-below (read (c .before))))

@@ -20,15 +20,15 @@ abbrev groundAt : ℕ → ℕ → (ℕ → StateRecord) → ℕ → Verdict
 groundAt period modules at i = stateGround period modules (upTo at i) i (at i)
 
 abbrev Inv-loop : tie.InvT-loop
-Inv-loop table log h totals₀ uptime₀ latest₀ opened₀ states from₀ i₀ totals uptime latest opened from i =
+Inv-loop table log h totals₀ latest₀ opened₀ states from₀ i₀ totals latest opened from i =
     (i ≤ states)
     × (states ≡ h .states)
     × (firstOf (groundAt (h .period) (h .modules) (stateAt log)) i ≡ Accepted)
     × (from ≡ fromOf (lastTime (upTo (stateAt log) i)))
-    × Held (upTo (stateAt log) i) (h .period) totals uptime latest opened
+    × Held (upTo (stateAt log) i) (h .period) totals latest opened
 
 abbrev μ-loop : tie.MeasureT-loop
-μ-loop table log h totals₀ uptime₀ latest₀ opened₀ states from₀ i₀ totals uptime latest opened from i = states - i
+μ-loop table log h totals₀ latest₀ opened₀ states from₀ i₀ totals latest opened from i = states - i
 
 loop-holds : tie.Need-loop-holds Inv-loop μ-loop
 unfolding upTo lastTime
@@ -36,7 +36,7 @@ loop-holds c = (search needs, refl, first-none _, refl, c .before .pre .1 .1)
 
 tally-record-requires : tie.Need-tally-record-requires Inv-loop μ-loop
 tally-record-requires c κs =
-    let t = c .before .before .before .before .before in
+    let t = c .before .before .before .before in
     let l = t .before in
     (l .before .before .pre .0, ((omega (arith, l .before .before .pre .1 .0 .0, t .loop-test .taken, l .loop .inv .1), l .before .before .pre .1 .0 .1), (l .loop .inv .3, l .loop .inv .4)))
 
@@ -46,7 +46,7 @@ enum-known-v c = search needs
 returns : tie.Need-returns Inv-loop μ-loop
 returns c =
     let t = c .before .before .before in
-    let turn = t .before .before .before .before .before .before in
+    let turn = t .before .before .before .before .before in
     let l = turn .before in
     let a = l .before .before .args in
     record {
@@ -69,7 +69,7 @@ loop-less c = search needs
 loop-again : tie.Need-loop-again Inv-loop μ-loop
 loop-again c =
     let t = c .before .before in
-    let l = t .before .before .before .before .before .before .before in
+    let l = t .before .before .before .before .before .before in
     let e = c .enum-told .given .1 in (
       search needs,
       refl,
