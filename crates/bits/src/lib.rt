@@ -164,11 +164,31 @@ pub fn past<'a>(r: BitReader<'a>, width: usize) -> BitReader<'a>
     }
 }
 
-// A field read through a reader. Its parameters are plain: the crates above read logs by it and by `read_word`.
+// A field read through a reader. Its parameters are plain, as those of the next two are: the crates above read by these three.
 pub fn read_field(log: &[u8], at: usize, width: usize) -> u64
     ensures { λ r. ⌜ r ≡ field (now (log .entry)) at (widthRead width) ⌝ }
 {
     take(reader_at(log, at), width)
+}
+
+// Two fields side by side.
+pub struct Pair {
+    pub first: u64,
+    pub second: u64,
+}
+
+// Two fields side by side, read through a reader that moves on from the first to the second.
+pub fn read_pair(log: &[u8], at: usize, first: usize, second: usize) -> Pair
+    requires { ⌜ at + first < 2 ^ 64 ⌝ }
+    ensures { λ r. ⌜ (r .first ≡ field (now (log .entry)) at (widthRead first)) × (r .second ≡ field (now (log .entry)) (at + first) (widthRead second)) ⌝ }
+{
+    let reader = reader_at(log, at);
+    let n = take(reader, first);
+    let m = take(past(reader, first), second);
+    Pair {
+        first: n,
+        second: m,
+    }
 }
 
 // A word read through a reader, for the passes over the lists of a log whose length is tested.

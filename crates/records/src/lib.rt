@@ -61,8 +61,9 @@ fn behind(s: &[u8], count: usize, size: usize) -> &[u8]
 pub fn read_header(log: &[u8]) -> Header
     ensures { λ r. ⌜ r ≡ headerOf (now (log .entry)) ⌝ }
 {
-    let first = bits::read_field(log, 0, 56);
-    let second = bits::read_field(log, 56, 24);
+    let both = bits::read_pair(log, 0, 56, 24);
+    let first = both.first;
+    let second = both.second;
     Header {
         period: first / 0x20_0000 % 0x8_0000_0000,
         modules: (first / 0x4000 % 0x80) as usize,
