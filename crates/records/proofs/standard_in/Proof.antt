@@ -8,13 +8,13 @@ use Rattle.records.proofs.standard_in.Tie as tie
 
 returns : tie.Need-returns
 unfolding standardFrom
-returns c = λ s p q u a b e.
+returns c = λ s p q a b e.
     rw (
       a,
       b,
       cut-at s p 0 10 35 45 p (omega arith) (omega arith),
       tail-at s p 10 35 45 (p + 10) (omega arith) (omega arith),
-      tail-at s q u 27 (u + 27) (p + 45) (omega arith) e,
+      tail-at s q 37 27 64 (p + 45) (omega arith) (omega (arith, e)),
     )
 
 pub standard-in-spec : {M : Type 1} → statement M

@@ -13,7 +13,7 @@ returns c =
     let p = c .before .before .before in
     let a = p .before .before .before .args in
     let at = p .place .result in
-    c .standard-in .ensures (a .log .now) (8 * at) (8 * (at + 1)) 37 (rw (c .before .before .read-word .ensures) (front (a .log .now) (8 * at) 45 19)) (c .before .read-word2 .ensures) (omega arith)
+    c .standard-in .ensures (a .log .now) (8 * at) (8 * (at + 1)) (rw (c .before .before .read-word .ensures) (front (a .log .now) (8 * at) 45 19)) (c .before .read-word2 .ensures) (omega arith)
     ∙ ap (standardFrom (a .log .now)) (omega (arith, p .place .ensures))
 
 pub standard-within-spec : {M : Type 1} → statement M

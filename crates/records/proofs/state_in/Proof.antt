@@ -8,13 +8,13 @@ use Rattle.records.proofs.state_in.Tie as tie
 
 returns : tie.Need-returns
 unfolding stateFrom
-returns c = λ s p u e.
+returns c = λ s p e.
     rw (
       e,
-      cut-at s p u 6 42 (u + 48) (p + u) (omega arith) (omega arith),
-      cut-at s p (u + 6) 5 37 (u + 48) (p + u + 6) (omega arith) (omega arith),
-      cut-at s p (u + 11) 35 2 (u + 48) (p + u + 11) (omega arith) (omega arith),
-      tail-at s p (u + 46) 2 (u + 48) (p + u + 46) (omega arith) (omega arith),
+      cut-at s p 16 6 42 64 (p + 16) (omega arith) (omega arith),
+      cut-at s p 22 5 37 64 (p + 16 + 6) (omega arith) (omega arith),
+      cut-at s p 27 35 2 64 (p + 16 + 11) (omega arith) (omega arith),
+      tail-at s p 62 2 64 (p + 16 + 46) (omega arith) (omega arith),
     )
 
 pub state-in-spec : {M : Type 1} → statement M

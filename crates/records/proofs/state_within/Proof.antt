@@ -10,7 +10,7 @@ use Rattle.records.proofs.state_within.Tie as tie
 returns : tie.Need-returns
 returns c =
     let a = c .before .before .before .args in
-    c .state-in .ensures (a .log .now) (8 * (8 + 6 * a .i)) 16 (c .before .read-word .ensures) ∙ ap (stateFrom (a .log .now)) (omega arith)
+    c .state-in .ensures (a .log .now) (8 * (8 + 6 * a .i)) (c .before .read-word .ensures) ∙ ap (stateFrom (a .log .now)) (omega arith)
 
 pub state-within-spec : {M : Type 1} → statement M
 state-within-spec =

@@ -8,16 +8,16 @@ use Rattle.records.proofs.unit_in.Tie as tie
 
 returns : tie.Need-returns
 unfolding unitFrom
-returns c = λ s p q u a b e.
+returns c = λ s p q a b e.
     rw (
       a,
       b,
       cut-at s p 0 6 45 51 p (omega arith) (omega arith),
       cut-at s p 6 10 35 51 (p + 6) (omega arith) (omega arith),
       tail-at s p 16 35 51 (p + 16) (omega arith) (omega arith),
-      cut-at s q u 16 21 (u + 37) (p + 51) (omega arith) e,
-      cut-at s q (u + 16) 16 5 (u + 37) (p + 67) (omega arith) (omega (arith, e)),
-      tail-at s q (u + 32) 5 (u + 37) (p + 83) (omega arith) (omega (arith, e)),
+      cut-at s q 27 16 21 64 (p + 51) (omega arith) (omega (arith, e)),
+      cut-at s q 43 16 5 64 (p + 67) (omega arith) (omega (arith, e)),
+      tail-at s q 59 5 64 (p + 83) (omega arith) (omega (arith, e)),
     )
 
 pub unit-in-spec : {M : Type 1} → statement M

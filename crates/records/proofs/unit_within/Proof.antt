@@ -13,7 +13,7 @@ returns c =
     let p = c .before .before .before in
     let a = p .before .before .before .before .args in
     let at = p .place .result in
-    c .unit-in .ensures (a .log .now) (8 * at) (8 * (at + 3)) 27 (rw (c .before .before .read-word .ensures) (front (a .log .now) (8 * at) 51 13)) (c .before .read-word2 .ensures) (omega arith)
+    c .unit-in .ensures (a .log .now) (8 * at) (8 * (at + 3)) (rw (c .before .before .read-word .ensures) (front (a .log .now) (8 * at) 51 13)) (c .before .read-word2 .ensures) (omega arith)
     ∙ ap (unitFrom (a .log .now)) (omega (arith, p .place .ensures))
 
 pub unit-within-spec : {M : Type 1} → statement M
