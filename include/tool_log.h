@@ -1,7 +1,7 @@
 /*
  * tool_log.h: the packed log of a semiconductor tool, answered: state times, the quantities and efficiencies of SEMI E79, and the shift report.
  *
- * Link libtool_log_c.a (x86-64 Linux). It needs nothing but C's memset.
+ * Link libtool_log_c.a (x86-64 Linux). It needs nothing but C's memcpy and memset.
  *
  * Every function takes any sequence of bytes as a log and always returns. It keeps no state, allocates nothing and calls nothing back, so threads
  * may call it at the same time with arrays of their own. It uses less than 64 KiB of stack.
