@@ -1,13 +1,21 @@
 #!/usr/bin/env python3
-"""Makes the input of the program `cases`: the edge cases of document 01, the printed figures of 002 and of 003's worked example,
-and inputs that are no log. What each must give is written here from those papers."""
+"""Makes the input of the program `cases` and what it must print: the edge cases of document 01, the printed figures of 002 and of
+003's worked example, and inputs that are no log, as reports and through the calls for state times, quantities and doubles. What each
+must give is written here from those papers: hours as 002 prints them, doubles from exact fractions. Nothing is taken from the library."""
 
+import struct
+from fractions import Fraction
 from pathlib import Path
 
-from make import case_w, guidebook, log, r1_1, r1_2
+from make import HOUR, WEEK, case_w, guidebook, log, r1_1, r1_2
+
+# The kinds of a case, as crates/cases/src/main.rt has them.
+REPORT, MODULE_TIMES, TOOL_TIMES, MODULE_QUANTITIES, TOOL_QUANTITIES, MODULE_DOUBLES, TOOL_DOUBLES, WRITE, PRINT = range(9)
+NO_BASE = 2**64 - 1
 
 HEADING = "module avail oper rate qual oee\n"
 LONGEST_REPORT = 2494
+ROOM = 200  # enough for three modules
 
 CASE_W = (
     HEADING
@@ -19,6 +27,7 @@ CASE_W = (
 R1_1 = "0.9286 0.9423 0.9841 0.9862 0.8492\n"
 GUIDEBOOK = "0.7857 0.7758 0.8245 0.9296 0.4672\n"
 PRODUCTIVE = "1.0000 1.0000 0.0000 - 0.0000\n"
+FULL_SPEED = "1.0000 1.0000 1.0000 1.0000 1.0000\n"
 
 
 def of_one_module(figures):
@@ -49,6 +58,11 @@ def made(standards, *units):
     return log(10, 1, [(0, 0, 0)], [(0, *standard) for standard in standards], [(0, 0, *unit) for unit in units])
 
 
+def full_speed(modules):
+    """A millisecond in which each module makes a unit of 1 ms."""
+    return log(1, modules, [(module, 0, 0) for module in range(modules)], [(0, 0, 1)], [(module, 0, 0, 1, 1) for module in range(modules)])
+
+
 def up(length, period):
     """One module, productive for so many milliseconds and then nonscheduled."""
     return log(period, 1, [(0, 0, 0), (0, 22, length)], [], [])
@@ -63,53 +77,243 @@ assert len(CASE_W) == 183
 TWO = [(0, 2), (4, 3)]  # start and theoretical time
 
 # name, log, length of the buffer, expected text; the starred cases of document 01 by their numbers
-CASES = [
-    ("1 no bytes", b"", LONGEST_REPORT, refused(1)),
-    ("1 nine bytes", case_w()[:9], LONGEST_REPORT, refused(1)),
-    ("2 longest period", productive(31_622_400_000), LONGEST_REPORT, of_one_module(PRODUCTIVE)),
-    ("2 too long", productive(31_622_400_001), LONGEST_REPORT, refused(2)),
+REPORTS = [
+    ("1 no bytes", b"", ROOM, refused(1)),
+    ("1 nine bytes", case_w()[:9], ROOM, refused(1)),
+    ("2 longest period", productive(31_622_400_000), ROOM, of_one_module(PRODUCTIVE)),
+    ("2 too long", productive(31_622_400_001), ROOM, refused(2)),
     ("3 64 modules", productive(1, 64), LONGEST_REPORT, lines(64, PRODUCTIVE)),
-    ("3 65 modules", productive(1, 65, 64), LONGEST_REPORT, refused(3)),
-    ("5 period less 1", changed(0, 9), LONGEST_REPORT, of_one_module(PRODUCTIVE)),
-    ("5 at the period", changed(0, 10), LONGEST_REPORT, refused(9, 1, 1)),
-    ("6 code 23", changed(23, 5), LONGEST_REPORT, of_one_module("0.5000 1.0000 0.0000 - 0.0000\n")),
-    ("6 code 24", changed(24, 5), LONGEST_REPORT, refused(8, 1, 1)),
-    ("7 one module", log(10, 1, [(0, 0, 0), (0, 7, 0)], [], []), LONGEST_REPORT, refused(10, 1, 1)),
-    ("7 two modules", productive(10, 2), LONGEST_REPORT, lines(2, PRODUCTIVE)),
-    ("8 at the start", made(TWO, (4, 1, 1)), LONGEST_REPORT, of_one_module("1.0000 1.0000 0.3000 1.0000 0.3000\n")),
-    ("8 1 ms earlier", made(TWO, (3, 1, 1)), LONGEST_REPORT, of_one_module("1.0000 1.0000 0.2000 1.0000 0.2000\n")),
-    ("8 none", made(TWO[1:], (3, 1, 1)), LONGEST_REPORT, refused(15, 3, 0)),
-    ("9 all effective", made([(0, 2)], (0, 3, 3)), LONGEST_REPORT, of_one_module("1.0000 1.0000 0.6000 1.0000 0.6000\n")),
-    ("9 one more", made([(0, 2)], (0, 3, 4)), LONGEST_REPORT, refused(14, 3, 0)),
-    ("10 full speed", made([(0, 2)], (0, 5, 5)), LONGEST_REPORT, of_one_module("1.0000 1.0000 1.0000 1.0000 1.0000\n")),
-    ("10 1 ms more", made([(0, 11)], (0, 1, 1)), LONGEST_REPORT, refused(16)),
-    ("11 no uptime", log(10, 1, [(0, 22, 0)], [], []), LONGEST_REPORT, of_one_module("0.0000 - - - 0.0000\n")),
-    ("12 1 over 20,000", up(1, 20_000), LONGEST_REPORT, of_one_module("0.0001 1.0000 0.0000 - 0.0000\n")),
-    ("12 1 over 20,001", up(1, 20_001), LONGEST_REPORT, of_one_module("0.0000 1.0000 0.0000 - 0.0000\n")),
-    ("14 99,996 over 100,000", up(99_996, 100_000), LONGEST_REPORT, of_one_module(PRODUCTIVE)),
-    ("6,000 state records", changes(6_000), LONGEST_REPORT, of_one_module(PRODUCTIVE)),
-    ("6,001 state records", changes(6_001), LONGEST_REPORT, refused(4)),
+    ("3 65 modules", productive(1, 65, 64), ROOM, refused(3)),
+    ("5 period less 1", changed(0, 9), ROOM, of_one_module(PRODUCTIVE)),
+    ("5 at the period", changed(0, 10), ROOM, refused(9, 1, 1)),
+    ("6 code 23", changed(23, 5), ROOM, of_one_module("0.5000 1.0000 0.0000 - 0.0000\n")),
+    ("6 code 24", changed(24, 5), ROOM, refused(8, 1, 1)),
+    ("7 one module", log(10, 1, [(0, 0, 0), (0, 7, 0)], [], []), ROOM, refused(10, 1, 1)),
+    ("7 two modules", productive(10, 2), ROOM, lines(2, PRODUCTIVE)),
+    ("8 at the start", made(TWO, (4, 1, 1)), ROOM, of_one_module("1.0000 1.0000 0.3000 1.0000 0.3000\n")),
+    ("8 1 ms earlier", made(TWO, (3, 1, 1)), ROOM, of_one_module("1.0000 1.0000 0.2000 1.0000 0.2000\n")),
+    ("8 none", made(TWO[1:], (3, 1, 1)), ROOM, refused(15, 3, 0)),
+    ("9 all effective", made([(0, 2)], (0, 3, 3)), ROOM, of_one_module("1.0000 1.0000 0.6000 1.0000 0.6000\n")),
+    ("9 one more", made([(0, 2)], (0, 3, 4)), ROOM, refused(14, 3, 0)),
+    ("10 full speed", made([(0, 2)], (0, 5, 5)), ROOM, of_one_module(FULL_SPEED)),
+    ("10 1 ms more", made([(0, 11)], (0, 1, 1)), ROOM, refused(16)),
+    ("11 no uptime", log(10, 1, [(0, 22, 0)], [], []), ROOM, of_one_module("0.0000 - - - 0.0000\n")),
+    ("12 1 over 20,000", up(1, 20_000), ROOM, of_one_module("0.0001 1.0000 0.0000 - 0.0000\n")),
+    ("12 1 over 20,001", up(1, 20_001), ROOM, of_one_module("0.0000 1.0000 0.0000 - 0.0000\n")),
+    ("14 99,996 over 100,000", up(99_996, 100_000), ROOM, of_one_module(PRODUCTIVE)),
+    ("6,000 state records", changes(6_000), ROOM, of_one_module(PRODUCTIVE)),
+    ("6,001 state records", changes(6_001), ROOM, refused(4)),
+    ("case W in 2,494 bytes", case_w(), LONGEST_REPORT, CASE_W),
     ("case W in 183 bytes", case_w(), 183, CASE_W),
     ("case W in 182 bytes", case_w(), 182, refused(18)),
     ("case W in no bytes", case_w(), 0, refused(18)),
-    ("R1-1", r1_1(), LONGEST_REPORT, of_one_module(R1_1)),
-    ("R1-2", r1_2(), LONGEST_REPORT, CASE_W),  # the figures of case W are R1-2's
-    ("worked example of 003", guidebook(), LONGEST_REPORT, of_one_module(GUIDEBOOK)),
-    ("one byte short", case_w()[:-1], LONGEST_REPORT, refused(5)),
-    ("one byte long", case_w() + b"\0", LONGEST_REPORT, refused(5)),
-    ("70,000 bytes", case_w() + bytes(70_000 - 100), LONGEST_REPORT, refused(5)),
-    ("70,000 zeros", bytes(70_000), LONGEST_REPORT, refused(2)),
+    ("longest report", full_speed(64), LONGEST_REPORT, lines(64, FULL_SPEED)),
+    ("longest report, 1 short", full_speed(64), LONGEST_REPORT - 1, refused(18)),
+    ("R1-1", r1_1(), ROOM, of_one_module(R1_1)),
+    ("R1-2", r1_2(), ROOM, CASE_W),  # the figures of case W are R1-2's
+    ("worked example of 003", guidebook(), ROOM, of_one_module(GUIDEBOOK)),
+    ("one byte short", case_w()[:-1], ROOM, refused(5)),
+    ("one byte long", case_w() + b"\0", ROOM, refused(5)),
+    ("70,000 bytes", case_w() + bytes(70_000 - 100), ROOM, refused(5)),
+    ("70,000 zeros", bytes(70_000), ROOM, refused(2)),
     ("no bytes for no buffer", b"", 0, refused(1)),
 ]
 
+# the same for `write_report`, which writes nothing for a refused log
+WRITES = [
+    ("W in 183 bytes, write", case_w(), 183, CASE_W),
+    ("W in 182 bytes, write", case_w(), 182, ""),
+    ("W in no bytes, write", case_w(), 0, ""),
+    ("W cut short, write", case_w()[:-1], ROOM, ""),
+    ("longest report, write", full_speed(64), LONGEST_REPORT, lines(64, FULL_SPEED)),
+]
 
-def entry(name, data, room, text):
-    title = name.encode().ljust(24)
-    assert len(title) == 24
-    lengths = b"".join(length.to_bytes(4, "big") for length in (len(data), room, len(text)))
-    return title + lengths + data + text.encode()
+# for `print_report`: name, log, expected text
+PRINTS = [
+    ("case W, print", case_w(), CASE_W),
+    ("R1-2, print", r1_2(), CASE_W),
+    ("longest report, print", full_speed(64), lines(64, FULL_SPEED)),
+    ("no bytes, print", b"", refused(1)),
+    ("code 24, print", changed(24, 5), refused(8, 1, 1)),
+    ("one byte long, print", case_w() + b"\0", refused(5)),
+]
+
+
+# ---- the calls for state times, quantities and doubles
+
+
+def answered(*numbers):
+    """An answer: 0 and six numbers, the last 0 where there are five."""
+    return (0, *numbers, 0)[:7]
+
+
+def turned_back(number, in_list=0, place=0):
+    return (number, in_list, place, 0, 0, 0, 0)
+
+
+def in_ms(hours):
+    """Hours as 002 prints them."""
+    times = [Fraction(count) * HOUR for count in hours.split()]
+    assert all(time.denominator == 1 for time in times)
+    return [int(time) for time in times]
+
+
+def sums(*lists):
+    return [sum(column) for column in zip(*lists)]
+
+
+def nearest(x):
+    """The double nearest to a fraction x from 0 to 1, a tie to the even one. Python rounds a fraction so."""
+    unit = Fraction(1, 2**52)
+    while 0 < x < 2**52 * unit:
+        unit /= 2
+    return round(x / unit) * unit
+
+
+def bits(x):
+    """The bit pattern of a fraction that is a double, and of None, no base."""
+    if x is None:
+        return NO_BASE
+    assert Fraction(float(x)) == x
+    return int.from_bytes(struct.pack(">d", float(x)), "big")
+
+
+def doubles(total, uptime, production, actual, effective):
+    """Document 01, sums and figures: four efficiencies, OEE, and the product, each quotient and each multiplication rounded once."""
+    pairs = [(uptime, total), (production, uptime), (actual, production), (effective, actual)]
+    four = [nearest(Fraction(n, d)) if d else None for n, d in pairs]
+    product = Fraction(0)
+    if None not in four:
+        product = four[0]
+        for factor in four[1:]:
+            product = nearest(product * factor)
+    return [bits(x) for x in (*four, nearest(Fraction(effective, total)), product)]
+
+
+def three_calls(name, data, module, times, quantities):
+    """The state times, the quantities and the doubles of a module, or of the tool where the module is None."""
+    kinds = (TOOL_TIMES, TOOL_QUANTITIES, TOOL_DOUBLES) if module is None else (MODULE_TIMES, MODULE_QUANTITIES, MODULE_DOUBLES)
+    answers = [("state times", times), ("quantities", quantities), ("doubles", doubles(*quantities))]
+    return [(kind, f"{name}, {what}", data, module or 0, answered(*numbers)) for kind, (what, numbers) in zip(kinds, answers)]
+
+
+def all_refused(name, data, module, answer, kinds=range(MODULE_TIMES, TOOL_DOUBLES + 1)):
+    """A log or a module that the calls turn back."""
+    return [(kind, f"{name}, call {kind}", data, module, answer) for kind in kinds]
+
+
+# 002, R1-1.1: productive, standby, engineering, scheduled down, unscheduled down and nonscheduled time.
+R1_1_TIMES = in_ms("147.00 6.00 3.00 8.00 4.00 0.00")
+# 002, Table R1-1: hours per unit, actual units, effective units. R1-1.2.3 and R1-1.2.4 print the sums as 144.66 and 142.66 hours.
+R1_1_UNITS = [("0.03333", 1420, 1400), ("0.04000", 600, 600), ("0.05000", 800, 800), ("0.06667", 500, 480)]
+R1_1_ACTUAL = sum(Fraction(hours) * actual for hours, actual, _ in R1_1_UNITS)
+R1_1_EFFECTIVE = sum(Fraction(hours) * effective for hours, _, effective in R1_1_UNITS)
+assert round(R1_1_ACTUAL, 2) == Fraction("144.66") and round(R1_1_EFFECTIVE, 2) == Fraction("142.66")
+# 002, R1-1.1 and R1-1.2: total time, uptime, production time, and the two sums.
+R1_1_QUANTITIES = in_ms(f"168.00 156.00 147.00 {R1_1_ACTUAL} {R1_1_EFFECTIVE}")
+
+# 002, R1-2.1, of process modules A, B and C: the six state times in the sequence of R1_1_TIMES.
+R1_2_TIMES = [
+    in_ms("150.00 10.00 3.00 0.00 5.00 0.00"),
+    in_ms("148.00 5.00 5.00 5.00 5.00 0.00"),
+    in_ms("80.00 88.00 0.00 0.00 0.00 0.00"),
+]
+# 002, R1-2.2, of process modules A, B and C, and of the tool.
+R1_2_QUANTITIES = [
+    in_ms("168.00 163.00 150.00 140.00 130.50"),
+    in_ms("168.00 158.00 148.00 145.00 139.00"),
+    in_ms("168.00 168.00 80.00 75.00 75.00"),
+]
+R1_2_TOOL = in_ms("504.00 489.00 378.00 360.00 344.50")
+
+# Document 01, case W: productive from 0 on, standby (code 7) from one record to the next, unscheduled down (code 18) to the period's end.
+W_TIMES = [
+    (540_000_000, 586_800_000 - 540_000_000, 0, 0, WEEK - 586_800_000, 0),
+    (532_800_000, 568_800_000 - 532_800_000, 0, 0, WEEK - 568_800_000, 0),
+    (288_000_000, WEEK - 288_000_000, 0, 0, 0, 0),
+]
+# Case W: the period, the uptime (to the unscheduled down), the productive time, and the units by 1,800,000 ms.
+W_QUANTITIES = [
+    (WEEK, 586_800_000, 540_000_000, 280 * 1_800_000, 261 * 1_800_000),
+    (WEEK, 568_800_000, 532_800_000, 290 * 1_800_000, 278 * 1_800_000),
+    (WEEK, WEEK, 288_000_000, 150 * 1_800_000, 150 * 1_800_000),
+]
+
+LONGEST_PERIOD = 31_622_400_000
+
+# kind, name, log, module, expected numbers
+CALLS = [
+    *three_calls("R1-1", r1_1(), 0, R1_1_TIMES, R1_1_QUANTITIES),
+    *three_calls("R1-1 tool", r1_1(), None, R1_1_TIMES, R1_1_QUANTITIES),
+    *three_calls("R1-2 A", r1_2(), 0, R1_2_TIMES[0], R1_2_QUANTITIES[0]),
+    *three_calls("R1-2 B", r1_2(), 1, R1_2_TIMES[1], R1_2_QUANTITIES[1]),
+    *three_calls("R1-2 C", r1_2(), 2, R1_2_TIMES[2], R1_2_QUANTITIES[2]),
+    *three_calls("R1-2 tool", r1_2(), None, sums(*R1_2_TIMES), R1_2_TOOL),
+    *three_calls("case W module 0", case_w(), 0, W_TIMES[0], W_QUANTITIES[0]),
+    *three_calls("case W module 1", case_w(), 1, W_TIMES[1], W_QUANTITIES[1]),
+    *three_calls("case W module 2", case_w(), 2, W_TIMES[2], W_QUANTITIES[2]),
+    *three_calls("case W tool", case_w(), None, sums(*W_TIMES), sums(*W_QUANTITIES)),
+    # no base: no uptime, and no unit made
+    *three_calls("11 no uptime", log(10, 1, [(0, 22, 0)], [], []), 0, (0, 0, 0, 0, 0, 10), (10, 0, 0, 0, 0)),
+    *three_calls("11 tool", log(10, 1, [(0, 22, 0)], [], []), None, (0, 0, 0, 0, 0, 10), (10, 0, 0, 0, 0)),
+    *three_calls("no units", productive(10), 0, (10, 0, 0, 0, 0, 0), (10, 10, 10, 0, 0)),
+    # the greatest sums: 64 modules of 366 days
+    *three_calls(
+        "64 modules of 366 days",
+        productive(LONGEST_PERIOD, 64),
+        None,
+        (64 * LONGEST_PERIOD, 0, 0, 0, 0, 0),
+        (64 * LONGEST_PERIOD, 64 * LONGEST_PERIOD, 64 * LONGEST_PERIOD, 0, 0),
+    ),
+    # a refused log answers its refusal, also where the module is a stray one
+    *all_refused("no bytes", b"", 0, turned_back(1)),
+    *all_refused("code 24", changed(24, 5), 0, turned_back(8, 1, 1)),
+    *all_refused("no standard", made(TWO[1:], (3, 1, 1)), 0, turned_back(15, 3, 0)),
+    *all_refused("no opening of module 2", productive(10, 3, 2), 1, turned_back(11, 0, 2)),
+    *all_refused("one byte short, module 9", case_w()[:-1], 9, turned_back(5)),
+    # a module that an accepted log does not have
+    *all_refused("stray module 3", case_w(), 3, turned_back(7, 0, 3), (MODULE_TIMES, MODULE_QUANTITIES, MODULE_DOUBLES)),
+    *all_refused("stray module 2^32 - 1", case_w(), 2**32 - 1, turned_back(7, 0, 2**32 - 1), (MODULE_TIMES, MODULE_QUANTITIES, MODULE_DOUBLES)),
+]
+
+# ---- what has to differ, so that it is seen that the program compares and tells
+
+WRONG_TEXTS = [
+    (REPORT, "a figure wrong on purpose", case_w(), ROOM, CASE_W.replace("0.6835", "0.6836")),
+    (REPORT, "a place wrong on purpose", changed(24, 5), ROOM, refused(8, 1, 2)),
+    (WRITE, "a length wrong on purpose", case_w(), ROOM, CASE_W[:-1]),
+    (PRINT, "a number wrong on purpose", case_w()[:-1], 0, refused(6)),
+]
+WRONG_CALLS = [
+    (MODULE_TIMES, "a time wrong on purpose", case_w(), 0, answered(*W_TIMES[0][:5], 1)),
+    (TOOL_DOUBLES, "a bit wrong on purpose", case_w(), 0, answered(*doubles(*R1_2_TOOL)[:5], doubles(*R1_2_TOOL)[5] ^ 1)),
+]
+
+
+def entry(kind, name, data, asked, expected):
+    title = name.encode()
+    lengths = b"".join(number.to_bytes(4, "big") for number in (asked, len(data), len(expected)))
+    return bytes([kind, len(title)]) + lengths + title + data + expected
+
+
+def text_entry(kind, name, data, room, text):
+    return entry(kind, name, data, room, text.encode())
+
+
+def call_entry(kind, name, data, module, numbers):
+    return entry(kind, name, data, module, b"".join(number.to_bytes(8, "big") for number in numbers))
 
 
 if __name__ == "__main__":
-    target = Path(__file__).parent.parent / "crates" / "cases" / "stdin"
-    target.write_bytes(len(CASES).to_bytes(2, "big") + b"".join(entry(*case) for case in CASES))
+    entries = [
+        *(text_entry(REPORT, *case) for case in REPORTS),
+        *(text_entry(WRITE, *case) for case in WRITES),
+        *(text_entry(PRINT, name, data, 0, text) for name, data, text in PRINTS),
+        *(call_entry(*case) for case in CALLS),
+        *(text_entry(*case) for case in WRONG_TEXTS),
+        *(call_entry(*case) for case in WRONG_CALLS),
+    ]
+    target = Path(__file__).parent.parent / "crates" / "cases"
+    (target / "stdin").write_bytes(len(entries).to_bytes(2, "big") + b"".join(entries))
+    told = "".join(f"{case[1]} differs\n" for case in WRONG_TEXTS + WRONG_CALLS)
+    (target / "stdout").write_text(f"{told}{len(entries)} cases run\n")

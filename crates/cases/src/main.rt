@@ -1,12 +1,21 @@
-// Runs the cases that standard input holds, and prints the name of each whose output differs, then how many it ran.
+// Runs the cases that standard input holds, and prints the name of each whose answer differs from what is expected, then how many it ran. The cases
+// named "on purpose" expect what is wrong: they have to be told.
 //
-// Input: the number of cases in 2 bytes; then for each its name in 24 bytes, three lengths of 4 bytes each (log, buffer for the report, expected
-// text), the log and the text.
+// Input: the number of cases in 2 bytes; then for each
+// - its kind in 1 byte, the call that is run. 0: `report`, with the verdict of `examine`. The state times, 1 of a module, 2 of the tool; the
+//   quantities, 3 of a module, 4 of the tool; the set of doubles, 5 of a module, 6 of the tool. 7: `write_report`. 8: `print_report`;
+// - the length of its name in 1 byte;
+// - in 4 bytes each what the call is asked for beside the log (0, 7: how many bytes of a buffer are lent; 1, 3, 5: the module), the length of the log
+//   and that of what is expected;
+// - the name, the log, and what is expected. Of 0, 7 and 8 that is a text: the report, or the line of the refusal, or nothing where `write_report`
+//   refuses. Of 1 to 6 it is seven numbers of 8 bytes, as numbers.rt has them.
+mod buffer;
+mod numbers;
+mod texts;
+
 ghost use Prim.Native.Nat.{_≤_};
 use libc::STDIN_FILENO;
 use libc::STDOUT_FILENO;
-use rules::Refusal;
-use rules::Verdict;
 use std::num::wrapping_add_usize;
 
 fn least(a: usize, b: usize) -> usize
@@ -21,38 +30,22 @@ fn part(data: &[u8], from: usize, size: usize) -> &[u8] {
     &rest[..least(size, rest.len())]
 }
 
-fn same(a: &[u8], b: &[u8]) -> bool {
-    if a.len() != b.len() {
-        return false;
-    }
-    let n = a.len();
-    for i in 0..n {
-        if a[i] != b[i] {
-            return false;
-        }
-    }
-    true
-}
-
-fn says(x: Refusal, expected: &[u8]) -> bool {
-    let mut line = [0u8; 80];
-    let n = report::put_refused_line(&mut line, x);
-    same(&line[..n], expected)
-}
-
-fn as_expected(log: &[u8], space: &mut [u8], room: usize, expected: &[u8]) -> bool {
-    let size = least(room, space.len());
-    let verdict = tool_log::examine(log, size);
-    let text = tool_log::report(log, &mut space[..size]);
-    if let Verdict::Refused(x) = verdict {
-        return text.len() == 0 && says(x, expected);
-    }
-    same(text, expected)
-}
-
 // The number in the first bits of the bytes from `at` on.
 fn number(data: &[u8], at: usize, width: usize) -> usize {
     bits::read_field(part(data, at, 8), 0, width) as usize
+}
+
+// Whether a case is answered as expected. Behind the part of a buffer that is lent stand 32 bytes more.
+fn as_expected(kind: usize, log: &[u8], asked: usize, expected: &[u8]) -> bool {
+    let mut space = [0u8; 2526];
+    let room = least(asked, 2494);
+    match kind {
+        0 => texts::reports(log, &mut space[..room + 32], room, expected),
+        1..=6 => numbers::as_expected(kind, log, asked, expected),
+        7 => texts::writes(log, &mut space[..room + 32], room, expected),
+        8 => texts::prints(log, expected),
+        _ => false,
+    }
 }
 
 fn tell(same: bool, name: &[u8]) {
@@ -65,22 +58,24 @@ fn tell(same: bool, name: &[u8]) {
 
 // Runs the case that begins at `at`, and answers where the next one begins.
 fn run_case(data: &[u8], at: usize) -> usize {
-    let size = number(data, wrapping_add_usize(at, 24), 32);
-    let room = number(data, wrapping_add_usize(at, 28), 32);
-    let text = number(data, wrapping_add_usize(at, 32), 32);
-    let log = wrapping_add_usize(at, 36);
+    let kind = number(data, at, 8);
+    let title = number(data, wrapping_add_usize(at, 1), 8);
+    let asked = number(data, wrapping_add_usize(at, 2), 32);
+    let size = number(data, wrapping_add_usize(at, 6), 32);
+    let length = number(data, wrapping_add_usize(at, 10), 32);
+    let name = wrapping_add_usize(at, 14);
+    let log = wrapping_add_usize(name, title);
     let expected = wrapping_add_usize(log, size);
-    let mut space = [0u8; 2494];
     tell(
         as_expected(
+            kind,
             part(data, log, size),
-            &mut space,
-            room,
-            part(data, expected, text),
+            asked,
+            part(data, expected, length),
         ),
-        part(data, at, 24),
+        part(data, name, title),
     );
-    wrapping_add_usize(expected, text)
+    wrapping_add_usize(expected, length)
 }
 
 // Runs every case, and answers how many there are.
