@@ -21,7 +21,7 @@ use Rattle.rules.proofs.FirstGround.{then-left, then-right}
 use Rattle.judging.specs.Working.{Grounded, Consistent}
 use Rattle.judging.proofs.Judging.{counted}
 use Rattle.judging.proofs.Accepted.{consistent, tool-ordered}
-use Rattle.tool_log.specs.Demands.{milliseconds, Partition, Doubles, DemandThree}
+use Rattle.tool_log.specs.Demands.{milliseconds, Partition, DemandedDoubles, DemandThree}
 
 -- ---- the doubles of ordered quantities
 
@@ -48,7 +48,7 @@ without-base a o r q (inr (inr (inr e))) = rw e (go a o r)
     go (Ratio x) (Ratio y) NoBase = refl
     go (Ratio x) (Ratio y) (Ratio z) = refl
 
-doubles : (q : Quantities) → Ordered q → Doubles q (figuresOf q)
+doubles : (q : Quantities) → Ordered q → DemandedDoubles q (figuresOf q)
 unfolding figuresOf
 doubles q h =
     let a = accurate q h in

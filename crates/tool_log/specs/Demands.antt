@@ -34,7 +34,7 @@ abbrev pub LacksBase : Figures → Type 0
 LacksBase r = (r .availability ≡ NoBase) ⊎ ((r .operational ≡ NoBase) ⊎ ((r .rate ≡ NoBase) ⊎ (r .quality ≡ NoBase)))
 
 -- what is demanded of the doubles r that are handed out for the quantities q of a module or of the tool
-pub record Doubles (q : Quantities) (r : Figures) : Type 0 where
+pub record DemandedDoubles (q : Quantities) (r : Figures) : Type 0 where
   -- the OEE handed out as a double is finite, and every other finite double lies at least as far from effective theoretical time over total time
   pub oee : Nearest (r .oee) (q .effective) (q .total)
   -- each quotient is rounded once
@@ -51,5 +51,5 @@ pub record Doubles (q : Quantities) (r : Figures) : Type 0 where
 
 pub record DemandThree (l : Log) : Type 0 where
   pub times : (m : ℕ) → m < l .modules → Partition l m (moduleTimes l m)
-  pub each : (m : ℕ) → m < l .modules → Doubles (ofModule l m) (figuresOf (ofModule l m))
-  pub tool : Doubles (ofTool l) (figuresOf (ofTool l))
+  pub each : (m : ℕ) → m < l .modules → DemandedDoubles (ofModule l m) (figuresOf (ofModule l m))
+  pub tool : DemandedDoubles (ofTool l) (figuresOf (ofTool l))

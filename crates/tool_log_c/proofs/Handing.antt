@@ -22,7 +22,7 @@ use Rattle.reporting.specs.Reports as reports
 use Rattle.telling.specs.Arrays.{timesOf, quantitiesOf, ratiosOf, basesOf}
 use Rattle.telling.specs.Told.{answerOr, Told}
 use Rattle.telling.specs.Answers.{timesVerdict, timesAfter, quantitiesVerdict, quantitiesAfter, figuresVerdict, ratiosAfter, basesAfter}
-use Rattle.tool_log_c.specs.Calls.{Promised, TellsVerdict, Numbers, Doubles}
+use Rattle.tool_log_c.specs.Calls.{Promised, TellsVerdict, TellsNumbers, TellsDoubles}
 
 -- ---- for every kind of answer
 
@@ -62,7 +62,7 @@ examined g t = record { told = told-of (g .answer) t; known = λ x p. g .refusal
 
 module _ {v : Verdict} {Allowed : Refusal → Type 0} {flag : ℕ} {refusal : List ℕ} where
   pub times-told : {t : StateTimes} {Promise : StateTimes → Type 0} {r : StateTimesAnswer} {before after : List ℕ} → Given times.Answered times.Refused v t Promise Allowed r
-      → Told (timesVerdict r) flag refusal → after ≡ timesAfter r before → Numbers v (timesOf t) before (Promise t) Allowed flag after refusal
+      → Told (timesVerdict r) flag refusal → after ≡ timesAfter r before → TellsNumbers v (timesOf t) before (Promise t) Allowed flag after refusal
   times-told {before = before} g t e =
       record {
         told = told-of (verdict-in g timesVerdict (λ b. refl) (λ x. refl)) t;
@@ -71,7 +71,7 @@ module _ {v : Verdict} {Allowed : Refusal → Type 0} {flag : ℕ} {refusal : Li
       }
 
   pub quantities-told : {q : Quantities} {Promise : Quantities → Type 0} {r : QuantitiesAnswer} {before after : List ℕ} → Given quantities.Answered quantities.Refused v q Promise Allowed r
-      → Told (quantitiesVerdict r) flag refusal → after ≡ quantitiesAfter r before → Numbers v (quantitiesOf q) before (Promise q) Allowed flag after refusal
+      → Told (quantitiesVerdict r) flag refusal → after ≡ quantitiesAfter r before → TellsNumbers v (quantitiesOf q) before (Promise q) Allowed flag after refusal
   quantities-told {before = before} g t e =
       record {
         told = told-of (verdict-in g quantitiesVerdict (λ b. refl) (λ x. refl)) t;
@@ -80,7 +80,7 @@ module _ {v : Verdict} {Allowed : Refusal → Type 0} {flag : ℕ} {refusal : Li
       }
 
   pub figures-told : {q : Quantities} {r : FiguresAnswer} {before after : List Float} {basedBefore based : List ℕ} → Given figures.Answered figures.Refused v (figuresOf q) (Accurate q) Allowed r
-      → Told (figuresVerdict r) flag refusal → after ≡ ratiosAfter r before → based ≡ basesAfter r basedBefore → Doubles v q before basedBefore Allowed flag after based refusal
+      → Told (figuresVerdict r) flag refusal → after ≡ ratiosAfter r before → based ≡ basesAfter r basedBefore → TellsDoubles v q before basedBefore Allowed flag after based refusal
   figures-told {before = before} {basedBefore = basedBefore} g t e b =
       record {
         told = told-of (verdict-in g figuresVerdict (λ b. refl) (λ x. refl)) t;

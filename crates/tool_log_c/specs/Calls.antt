@@ -33,7 +33,7 @@ pub record TellsVerdict (s : List ℕ) (room r : ℕ) (refusal : List ℕ) : Typ
 
 -- ---- whole numbers
 
-pub record Numbers (v : Verdict) (numbers before : List ℕ) (Promise : Type 0) (Allowed : Refusal → Type 0) (r : ℕ) (after refusal : List ℕ) : Type 0 where
+pub record TellsNumbers (v : Verdict) (numbers before : List ℕ) (Promise : Type 0) (Allowed : Refusal → Type 0) (r : ℕ) (after refusal : List ℕ) : Type 0 where
   pub told : Told v r refusal
   pub array : after ≡ answerOr v numbers before
   pub known : Promised v Promise Allowed
@@ -42,29 +42,29 @@ pub record Numbers (v : Verdict) (numbers before : List ℕ) (Promise : Type 0) 
 abbrev pub TellsModuleTimes : List ℕ → ℕ → List ℕ → ℕ → List ℕ → List ℕ → Type 0
 TellsModuleTimes s m before r after refusal =
     let t = moduleTimes (decode s) m in
-    Numbers (verdictOn s m) (timesOf t) before (allTimes t ≡ decode s .period) (OnModule s m) r after refusal
+    TellsNumbers (verdictOn s m) (timesOf t) before (allTimes t ≡ decode s .period) (OnModule s m) r after refusal
 
 -- the tool's, which add up to its total time
 abbrev pub TellsToolTimes : List ℕ → List ℕ → ℕ → List ℕ → List ℕ → Type 0
 TellsToolTimes s before r after refusal =
     let t = toolTimes (decode s) in
-    Numbers (verdict s) (timesOf t) before (allTimes t ≡ ofTool (decode s) .total) (OfLog s) r after refusal
+    TellsNumbers (verdict s) (timesOf t) before (allTimes t ≡ ofTool (decode s) .total) (OfLog s) r after refusal
 
 -- the five quantities of module m, none of which passes the one before it
 abbrev pub TellsModuleQuantities : List ℕ → ℕ → List ℕ → ℕ → List ℕ → List ℕ → Type 0
 TellsModuleQuantities s m before r after refusal =
     let q = ofModule (decode s) m in
-    Numbers (verdictOn s m) (quantitiesOf q) before (Ordered q) (OnModule s m) r after refusal
+    TellsNumbers (verdictOn s m) (quantitiesOf q) before (Ordered q) (OnModule s m) r after refusal
 
 abbrev pub TellsToolQuantities : List ℕ → List ℕ → ℕ → List ℕ → List ℕ → Type 0
 TellsToolQuantities s before r after refusal =
     let q = ofTool (decode s) in
-    Numbers (verdict s) (quantitiesOf q) before (Ordered q) (OfLog s) r after refusal
+    TellsNumbers (verdict s) (quantitiesOf q) before (Ordered q) (OfLog s) r after refusal
 
 -- ---- doubles
 
 -- the doubles of quantities q, which are as accurate as `Accurate` says
-pub record Doubles (v : Verdict) (q : Quantities) (before : List Float) (basedBefore : List ℕ) (Allowed : Refusal → Type 0) (r : ℕ) (after : List Float) (based refusal : List ℕ) : Type 0 where
+pub record TellsDoubles (v : Verdict) (q : Quantities) (before : List Float) (basedBefore : List ℕ) (Allowed : Refusal → Type 0) (r : ℕ) (after : List Float) (based refusal : List ℕ) : Type 0 where
   pub told : Told v r refusal
   pub doubles : after ≡ answerOr v (ratiosOf (figuresOf q)) before
   pub bases : based ≡ answerOr v (basesOf (figuresOf q)) basedBefore
@@ -72,8 +72,8 @@ pub record Doubles (v : Verdict) (q : Quantities) (before : List Float) (basedBe
 
 abbrev pub TellsModuleFigures : List ℕ → ℕ → List Float → List ℕ → ℕ → List Float → List ℕ → List ℕ → Type 0
 TellsModuleFigures s m before basedBefore r after based refusal =
-    Doubles (verdictOn s m) (ofModule (decode s) m) before basedBefore (OnModule s m) r after based refusal
+    TellsDoubles (verdictOn s m) (ofModule (decode s) m) before basedBefore (OnModule s m) r after based refusal
 
 abbrev pub TellsToolFigures : List ℕ → List Float → List ℕ → ℕ → List Float → List ℕ → List ℕ → Type 0
 TellsToolFigures s before basedBefore r after based refusal =
-    Doubles (verdict s) (ofTool (decode s)) before basedBefore (OfLog s) r after based refusal
+    TellsDoubles (verdict s) (ofTool (decode s)) before basedBefore (OfLog s) r after based refusal
