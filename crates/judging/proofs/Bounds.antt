@@ -13,15 +13,8 @@ use Rattle.records.specs.Log.{headerOf}
 use Rattle.rules.specs.declared.Verdict.{Verdict}
 use Rattle.rules.specs.declared.Verdict.the-variants.{Accepted, Refused}
 use Rattle.rules.specs.Verdict.{badPeriod, badModules, badCounts, badLength, headerGrounds}
+use Rattle.rules.proofs.Booleans.{or-left, or-right}
 use Rattle.rules.proofs.FirstGround.{not-met, then-left, then-right}
-
-or-left : (a b : Bool) → a || b ≡ false → a ≡ false
-or-left true b e = e
-or-left false b e = refl
-
-or-right : (a b : Bool) → a || b ≡ false → b ≡ false
-or-right true b e = let z : _≡_ {A = ℕ} 0 1 = cc in absurd (omega arith)
-or-right false b e = e
 
 pub good-period : (p : ℕ) → badPeriod p ≡ false → (0 < p) × (p ≤ 31622400000)
 good-period p e = (omega (arith, eqb-false p 0 (or-left (eqb p 0) (ltb 31622400000 p) e)), ltb-false 31622400000 p (or-right (eqb p 0) (ltb 31622400000 p) e))

@@ -1,6 +1,6 @@
 -- The laws of the first ground met: over a range it stops at the first refusal, and records tested in turn are such a range.
 -- Assumes nothing.
-use mathlib.Core.Path.{_≡_, refl, sym, ap, _∙_}
+use mathlib.Core.Path.{_≡_, refl, sym, ap, _∙_, subst}
 use mathlib.Core.Bool.{Bool, true, false}
 use mathlib.Core.List.{List, [], _∷_, _++_, append-assoc, append-nil}
 use Prim.Native.Nat.{ℕ, zero, suc, _+_, _-_, _≤_, _<_}
@@ -43,6 +43,10 @@ not-met n l p true e = let z : _≡_ {A = ℕ} 0 1 = cc in absurd (omega arith)
 not-met n l p false e = refl
 
 -- ---- over a range
+
+-- what holds of each index below n, and of n, holds of each below n + 1
+pub below-suc : {P : ℕ → Type 0} (n : ℕ) → ((i : ℕ) → i < n → P i) → P n → (i : ℕ) → i < suc n → P i
+below-suc {P} n all at i h = elim (ℕ-discrete n i) [ yes e ↦ subst P e at | no ne ↦ all i (omega (arith, ne)) ]
 
 module _ (g : ℕ → Verdict) where
   pub first-all : (n : ℕ) → firstOf g n ≡ Accepted → (i : ℕ) → i < n → g i ≡ Accepted

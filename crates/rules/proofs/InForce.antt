@@ -12,6 +12,8 @@ use lib.Dec.{leb, eqb}
 use borrow.Author.Tests.{eq-eqb, ne-eqb, le-leb, lt-leb, leb-true, leb-false}
 use Rattle.records.specs.declared.Standard.{Standard}
 use Rattle.records.specs.Log.{upTo}
+use Rattle.rules.proofs.Booleans.{both-true, right-false}
+use Rattle.rules.proofs.FirstGround.{below-suc}
 use Rattle.rules.specs.Theoretical.{later, consider, inForce, Force, Answers}
 
 -- ---- one more standard
@@ -24,13 +26,6 @@ force-more at n recipe time = foldl-append (consider recipe time) none (upTo at 
 pub other-recipe : (recipe time : ℕ) (o : Option Standard) (s : Standard) → (s .recipe ≡ recipe → ⊥) → consider recipe time o s ≡ o
 other-recipe recipe time o s ne = rw (ne-eqb (s .recipe) recipe ne)
 
-both-true : (a b : Bool) → a ≡ true → b ≡ true → a && b ≡ true
-both-true a b p q = rw (p, q)
-
-right-false : (a b : Bool) → b ≡ false → a && b ≡ false
-right-false true b q = q
-right-false false b q = refl
-
 pub not-begun : (recipe time : ℕ) (o : Option Standard) (s : Standard) → time < s .start → consider recipe time o s ≡ o
 not-begun recipe time o s h = rw (right-false (eqb (s .recipe) recipe) (leb (s .start) time) (lt-leb (s .start) time h))
 
@@ -42,7 +37,7 @@ counted recipe time o s e h = rw (both-true (eqb (s .recipe) recipe) (leb (s .st
 module _ (at : ℕ → Standard) (recipe time : ℕ) where
   -- standard n does not count: what was answered still stands
   keeps : (n : ℕ) (o : Option Standard) → Answers at n recipe time o → (at n .recipe ≡ recipe → at n .start ≤ time → ⊥) → Answers at (suc n) recipe time o
-  keeps n none a not = λ i h e l. elim (ℕ-discrete i n) [ yes q ↦ not (rw q at e) (rw q at l) | no q ↦ a i (omega (arith, q)) e l ]
+  keeps n none a not = below-suc n a not
   keeps n (some s) f not =
       record {
         index = f .index;
@@ -50,7 +45,7 @@ module _ (at : ℕ → Standard) (recipe time : ℕ) where
         same = f .same;
         own = f .own;
         begun = f .begun;
-        latest = λ i h e l. elim (ℕ-discrete i n) [ yes q ↦ absurd (not (rw q at e) (rw q at l)) | no q ↦ f .latest i (omega (arith, q)) e l ];
+        latest = below-suc n (f .latest) (λ e l. absurd (not e l));
       }
 
   takes : (n : ℕ) (o : Option Standard) → Answers at n recipe time o → at n .recipe ≡ recipe → at n .start ≤ time → Answers at (suc n) recipe time (later o (at n))
@@ -61,7 +56,7 @@ module _ (at : ℕ → Standard) (recipe time : ℕ) where
         same = refl;
         own = own;
         begun = begun;
-        latest = λ i h e l. elim (ℕ-discrete i n) [ yes q ↦ rw q (le-refl (at n .start)) | no q ↦ absurd (a i (omega (arith, q)) e l) ];
+        latest = below-suc n (λ i h e l. absurd (a i h e l)) (λ e l. le-refl (at n .start));
       }
   takes n (some s) f own begun = pick (leb (at n .start) (s .start)) refl
     where
@@ -73,7 +68,7 @@ module _ (at : ℕ → Standard) (recipe time : ℕ) where
             same = f .same;
             own = f .own;
             begun = f .begun;
-            latest = λ i h e l. elim (ℕ-discrete i n) [ yes q ↦ rw q (leb-true (at n .start) (s .start) p) | no q ↦ f .latest i (omega (arith, q)) e l ];
+            latest = below-suc n (f .latest) (λ e l. leb-true (at n .start) (s .start) p);
           }
       pick false p =
           record {
@@ -82,7 +77,7 @@ module _ (at : ℕ → Standard) (recipe time : ℕ) where
             same = refl;
             own = own;
             begun = begun;
-            latest = λ i h e l. elim (ℕ-discrete i n) [ yes q ↦ rw q (le-refl (at n .start)) | no q ↦ omega (arith, f .latest i (omega (arith, q)) e l, leb-false (at n .start) (s .start) p) ];
+            latest = below-suc n (λ i h e l. omega (arith, f .latest i h e l, leb-false (at n .start) (s .start) p)) (λ e l. le-refl (at n .start));
           }
 
   pub in-force : (n : ℕ) → Answers at n recipe time (inForce (upTo at n) recipe time)

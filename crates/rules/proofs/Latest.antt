@@ -19,7 +19,8 @@ use Rattle.rules.specs.Names.{ofStates}
 use Rattle.rules.specs.Time.{keep, codeAt, CodeIs}
 use Rattle.rules.specs.RecordGrounds.{lastTime, ownTime, isBefore, isNotAfter, stateGround, stateGrounds, openingGround}
 use Rattle.rules.specs.Verdict.{headerGrounds, recordGrounds, verdict}
-use Rattle.rules.proofs.FirstGround.{then-left, then-right, not-met, first-all, turn-range}
+use Rattle.rules.proofs.Booleans.{or-left, right-false}
+use Rattle.rules.proofs.FirstGround.{then-left, then-right, not-met, below-suc, first-all, turn-range}
 
 -- ---- in records whose times do not fall
 
@@ -27,14 +28,10 @@ code-more : (at : ℕ → StateRecord) (n m t : ℕ) → codeAt (upTo at (suc n)
 unfolding codeAt upTo
 code-more at n m t = foldl-append (keep m t) none (upTo at n) (at n ∷ [])
 
-right-false : (a b : Bool) → b ≡ false → a && b ≡ false
-right-false true b q = q
-right-false false b q = refl
-
 module _ (at : ℕ → StateRecord) (m t : ℕ) where
   -- record n is not the module's, or after t: what was answered still stands
   passes-over : (n : ℕ) (o : Option ℕ) → CodeIs at n m t o → (at n .«module» ≡ m → at n .time ≤ t → ⊥) → CodeIs at (suc n) m t o
-  passes-over n none a not = λ i h e l. elim (ℕ-discrete i n) [ yes q ↦ not (rw q at e) (rw q at l) | no q ↦ a i (omega (arith, q)) e l ]
+  passes-over n none a not = below-suc n a not
   passes-over n (some c) f not =
       record {
         index = f .index;
@@ -42,7 +39,7 @@ module _ (at : ℕ → StateRecord) (m t : ℕ) where
         own = f .own;
         begun = f .begun;
         same = f .same;
-        latest = λ i h e l. elim (ℕ-discrete i n) [ yes q ↦ absurd (not (rw q at e) (rw q at l)) | no q ↦ f .latest i (omega (arith, q)) e l ];
+        latest = below-suc n (f .latest) (λ e l. absurd (not e l));
       }
 
   pub latest-code : (n : ℕ) → ((i j : ℕ) → i < j → j < n → at i .time ≤ at j .time) → CodeIs at n m t (codeAt (upTo at n) m t)
@@ -62,14 +59,10 @@ module _ (at : ℕ → StateRecord) (m t : ℕ) where
             own = e;
             begun = omega arith;
             same = refl;
-            latest = λ i h e′ l′. elim (ℕ-discrete i n) [ yes q ↦ rw q (le-refl (at n .time)) | no q ↦ up i n (omega (arith, q)) (le-refl (suc n)) ];
+            latest = below-suc n (λ i h e′ l′. up i n h (le-refl (suc n))) (λ e′ l′. le-refl (at n .time));
           }
 
 -- ---- in accepted records
-
-or-left : (a b : Bool) → a || b ≡ false → a ≡ false
-or-left true b e = e
-or-left false b e = refl
 
 module _ (period modules : ℕ) (at : ℕ → StateRecord) (n : ℕ) (accepted : eachOf (stateGround period modules) (upTo at n) ≡ Accepted) where
   -- no record is before the one before it

@@ -1,3 +1,4 @@
+pub mod Booleans
 pub mod FirstGround
 pub mod InForce
 pub mod KnownRefusals

@@ -12,6 +12,7 @@ use Rattle.records.specs.declared.StateRecord.{StateRecord}
 use Rattle.rules.specs.declared.Verdict.the-variants.{Accepted}
 use Rattle.rules.specs.Grounds.{ground}
 use Rattle.rules.specs.RecordGrounds.{lastTime, ownTime, isBefore, isNotAfter, stateGround}
+use Rattle.rules.proofs.Booleans.{or-right}
 use Rattle.rules.proofs.FirstGround.{then-left, then-right, not-met}
 use Rattle.states.specs.Held.{fromOf, nextOf}
 
@@ -33,10 +34,6 @@ pub record Sound (period modules : ℕ) (earlier : List StateRecord) (r : StateR
   pub low : r .code < 24
   pub inside : r .time < period
   pub later : nextOf (ownTime (r .«module») earlier) ≤ r .time
-
-or-right : (a b : Bool) → (a || b) ≡ false → b ≡ false
-or-right true b e = let z : _≡_ {A = ℕ} 0 1 = cc in absurd (omega arith)
-or-right false b e = e
 
 module _ (period modules : ℕ) (earlier : List StateRecord) (i : ℕ) (r : StateRecord) where
   pub sound : stateGround period modules earlier i r ≡ Accepted → Sound period modules earlier r
