@@ -3,21 +3,18 @@
 use mathlib.Core.Path.{_≡_, refl, sym, ap, _∙_, subst}
 use mathlib.Core.Bool.{Bool, true, false}
 use mathlib.Core.List.{List}
-use Prim.Native.Nat.{ℕ, _+_, _*_, _≤_, _<_}
+use Prim.Native.Nat.{ℕ, _+_, _≤_, _<_}
 use native.Mathlib.Omega.{arith}
-use native.Mathlib.Nat.{add-zero}
 use lib.Dec.{leb}
-use lib.ListN.{getD}
 use borrow.Author.Tests.{le-leb, lt-leb, leb-true}
 use Rattle.records.specs.Log.{Log, decode}
 use Rattle.e79.specs.declared.Quantities.{Quantities}
-use Rattle.e79.specs.Quantities.{Ordered}
 use Rattle.rules.specs.declared.Refusal.{Refusal}
 use Rattle.rules.specs.declared.StateTimes.{StateTimes}
 use Rattle.rules.specs.declared.Verdict.{Verdict}
 use Rattle.rules.specs.declared.Verdict.the-variants.{Accepted, Refused}
 use Rattle.rules.specs.Grounds.{ground, _then_}
-use Rattle.rules.specs.Quantities.{allTimes, timeIn, sumBelow, moduleTimes, toolTimes, ofModule, ofTool}
+use Rattle.rules.specs.Quantities.{allTimes, timeIn, moduleTimes, toolTimes, ofModule, ofTool}
 use Rattle.rules.specs.Verdict.{verdict, verdictOn}
 use Rattle.rules.proofs.FirstGround.{refused-not}
 use Rattle.rules.proofs.KnownRefusals.{log-refusal}

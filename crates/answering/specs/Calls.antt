@@ -3,14 +3,11 @@
 use mathlib.Core.Path.{_≡_}
 use mathlib.Core.List.{List}
 use Prim.Native.Nat.{ℕ, _≤_}
-use Rattle.records.specs.Log.{Log, decode}
-use Rattle.e79.specs.declared.Quantities.{Quantities}
-use Rattle.e79.specs.declared.Figures.{Figures}
+use Rattle.records.specs.Log.{decode}
 use Rattle.e79.specs.Quantities.{Ordered}
 use Rattle.e79.specs.Doubles.{figuresOf}
 use Rattle.e79.specs.Accuracy.{Accurate}
 use Rattle.rules.specs.declared.Refusal.{Refusal}
-use Rattle.rules.specs.declared.StateTimes.{StateTimes}
 use Rattle.rules.specs.declared.Verdict.{Verdict}
 use Rattle.rules.specs.declared.Verdict.the-variants.{Accepted, Refused}
 use Rattle.rules.specs.Names.{noList}

@@ -3,8 +3,8 @@
 use mathlib.Core.Path.{_≡_, refl, sym, ap, _∙_}
 use mathlib.Core.Bool.{Bool, true, false, cond, _||_, not}
 use mathlib.Core.List.{List, [], _∷_, _++_}
-use Prim.Native.Nat.{ℕ, zero, suc, _+_, _*_, _^_, _≤_, _<_}
-use native.Mathlib.Nat.{mul-le-mul-right, mul-le-mul, le-refl, le-trans}
+use Prim.Native.Nat.{ℕ, suc, _+_, _*_, _≤_, _<_}
+use native.Mathlib.Nat.{mul-le-mul-right, mul-le-mul, le-refl}
 use native.Mathlib.Omega.{arith}
 use lib.Dec.{leb, ltb, eqb}
 use borrow.Author.Tests.{ltb-false, le-ltb}
@@ -18,12 +18,12 @@ use Rattle.rules.specs.declared.Verdict.the-variants.{Accepted, Refused}
 use Rattle.rules.specs.Grounds.{ground, _then_, firstOf, inTurn}
 use Rattle.rules.specs.Theoretical.{inForce, timeOf, credit, theoreticalTime}
 use Rattle.rules.specs.RecordGrounds.{isNone, unitGround, unitGrounds}
-use Rattle.rules.specs.Quantities.{timeIn, uptime, actualTime, effectiveTime, sumBelow, moduleTimes, allTimes, ofModule, ofTool, toolTimes}
+use Rattle.rules.specs.Quantities.{timeIn, uptime, actualTime, effectiveTime, sumBelow, moduleTimes, allTimes, ofTool, toolTimes}
 use Rattle.rules.specs.Verdict.{fastGround, isOver, anyOver, anyTimeOver, sumGrounds}
 use Rattle.rules.proofs.FirstGround.{then-left, then-right, refused-not, not-met, first-all}
 use Rattle.states.proofs.SixTimes.{state-time-le, six-times}
 use Rattle.judging.specs.Working.{Grounded, Consistent, SumsTested}
-use Rattle.judging.proofs.SumLaws.{sum-le, sum-each, sum-low}
+use Rattle.judging.proofs.SumLaws.{sum-le, sum-each}
 
 -- ---- effective units are among the actual ones
 

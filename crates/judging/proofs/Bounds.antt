@@ -1,8 +1,8 @@
 -- What an accepted header tells: its numbers are within their bounds.
 -- Assumes nothing.
-use mathlib.Core.Path.{_≡_, refl}
+use mathlib.Core.Path.{_≡_}
 use mathlib.Core.List.{List}
-use mathlib.Core.Bool.{Bool, true, false, _||_}
+use mathlib.Core.Bool.{true, false, _||_}
 use Prim.Native.Nat.{ℕ, _≤_, _<_}
 use native.Mathlib.Omega.{arith}
 use borrow.Author.Tests.{lt-ltb, le-ltb, ltb-false, eqb-false}
@@ -10,11 +10,9 @@ use lib.Dec.{ltb, eqb}
 use lib.ListN.{length}
 use Rattle.records.specs.declared.Header.{Header}
 use Rattle.records.specs.Log.{headerOf}
-use Rattle.rules.specs.declared.Verdict.{Verdict}
 use Rattle.rules.specs.declared.Verdict.the-variants.{Accepted, Refused}
 use Rattle.rules.specs.Verdict.{badPeriod, badModules, badCounts, badLength, headerGrounds}
 use Rattle.rules.proofs.Booleans.{or-left, or-right}
-use Rattle.rules.proofs.FirstGround.{not-met, then-left, then-right}
 
 pub good-period : (p : ℕ) → badPeriod p ≡ false → (0 < p) × (p ≤ 31622400000)
 good-period p e = (omega (arith, eqb-false p 0 (or-left (eqb p 0) (ltb 31622400000 p) e)), ltb-false 31622400000 p (or-right (eqb p 0) (ltb 31622400000 p) e))

@@ -1,15 +1,14 @@
 -- The log judged, ground by ground: each part's answer decides, and an accepted log's arrays hold its sums.
 -- Assumes nothing.
 use mathlib.Core.Path.{_≡_, refl, sym, ap, _∙_, subst}
-use mathlib.Core.Bool.{Bool, _||_}
 use mathlib.Core.List.{List}
 use Prim.Native.Nat.{ℕ, _+_, _*_, _≤_, _<_}
 use native.Mathlib.Omega.{arith}
-use lib.ListN.{length, getD}
+use lib.ListN.{length}
 use lib.Dec.{ltb}
 use borrow.Author.Tests.{eqb-true, not-false}
 use Rattle.records.specs.declared.Header.{Header}
-use Rattle.records.specs.Log.{Log, headerOf, stateAt, standardAt, unitAt, upTo, decode}
+use Rattle.records.specs.Log.{headerOf, stateAt, standardAt, unitAt, upTo, decode}
 use Rattle.rules.specs.declared.Refusal.{Refusal}
 use Rattle.rules.specs.declared.Verdict.{Verdict}
 use Rattle.rules.specs.declared.Verdict.the-variants.{Accepted, Refused}

@@ -1,6 +1,6 @@
 -- The bytes of a log, from its records: the header, then the lists, each record by its fields in their widths and sequence.
 -- Definitions only.
-use Prim.Native.Nat.{ℕ, _<_, _^_}
+use Prim.Native.Nat.{ℕ}
 use mathlib.Core.List.{List, [], _∷_, _++_}
 use lib.ListN.{length}
 use Rattle.bits.specs.Put.{Slot, packed, Fit}

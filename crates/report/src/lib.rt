@@ -10,7 +10,7 @@ ghost use mathlib.Core.List.{_++_};
 ghost use Prim.Native.Nat.{_+_, _≤_, _<_};
 ghost use lib.ListN.{length};
 ghost use Rattle.e79.specs.Quantities.{Ordered, Portion};
-ghost use Rattle.report.specs.Report.{decimal, places, figure, figures, heading, moduleLine, toolLine, refusedLine, Put, LengthOf, FigureLength, ModuleLength, PutRefused};
+ghost use Rattle.report.specs.Report.{decimal, places, figure, figures, heading, moduleLine, toolLine, Put, LengthOf, FigureLength, ModuleLength, PutRefused};
 ghost use Rattle.report.specs.Report.{digit as Report·digit};
 
 // Copies a text into the buffer from `at` on.

@@ -1,10 +1,10 @@
 -- The standard in force, in document 01's own words; and of two parts of a list, the one in force in both is the later of the two.
 -- Assumes nothing.
-use mathlib.Core.Path.{_≡_, refl, sym, ap, _∙_}
-use mathlib.Core.Bool.{Bool, true, false, _&&_, cond}
+use mathlib.Core.Path.{_≡_, refl}
+use mathlib.Core.Bool.{Bool, true, false, cond}
 use mathlib.Core.Option.{Option, none, some}
-use mathlib.Core.List.{List, [], _∷_, _++_, foldl-append}
-use Prim.Native.Nat.{ℕ, zero, suc, _+_, _≤_, _<_}
+use mathlib.Core.List.{[], _∷_, foldl-append}
+use Prim.Native.Nat.{ℕ, zero, suc, _≤_, _<_}
 use native.Mathlib.Nat.{le-refl}
 use native.Mathlib.Decide.{ℕ-discrete, decLt}
 use native.Mathlib.Omega.{arith}
@@ -14,7 +14,7 @@ use Rattle.records.specs.declared.Standard.{Standard}
 use Rattle.records.specs.Log.{upTo}
 use Rattle.rules.proofs.Booleans.{both-true, right-false}
 use Rattle.rules.proofs.FirstGround.{below-suc}
-use Rattle.rules.specs.Theoretical.{later, consider, inForce, Force, Answers}
+use Rattle.rules.specs.Theoretical.{later, consider, inForce, Answers}
 
 -- ---- one more standard
 

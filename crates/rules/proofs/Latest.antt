@@ -2,7 +2,7 @@
 -- accepted records the times do not fall, so that the last is the latest.
 -- Assumes nothing.
 use mathlib.Core.Path.{_≡_, refl, sym, _∙_}
-use mathlib.Core.Bool.{Bool, true, false, _&&_, _||_, not}
+use mathlib.Core.Bool.{not}
 use mathlib.Core.Option.{Option, none, some}
 use mathlib.Core.List.{List, [], _∷_, foldl-append}
 use Prim.Native.Nat.{ℕ, zero, suc, _≤_, _<_}

@@ -1,7 +1,7 @@
 -- Document 01's table of refusals: which list comes with which number.
 -- Definitions only.
 use Prim.Native.Nat.{ℕ}
-use mathlib.Core.Bool.{Bool, true, false, _&&_, _||_}
+use mathlib.Core.Bool.{Bool, false, _&&_, _||_}
 use mathlib.Core.List.{List, [], _∷_}
 use lib.Dec.{T, eqb}
 use mathlib.Core.Path.{_≡_}

@@ -10,12 +10,11 @@ use native.Mathlib.Decide.{ℕ-discrete}
 use lib.Dec.{T, eqb, leb, leb→le, le→leb}
 use borrow.Author.Tests.{eq-eqb, ne-eqb, le-leb, lt-leb}
 use Rattle.records.specs.declared.StateRecord.{StateRecord}
-use Rattle.records.specs.Log.{upTo}
 use Rattle.rules.specs.declared.Verdict.the-variants.{Accepted}
 use Rattle.rules.specs.Grounds.{firstOf, inTurn, eachOf}
 use Rattle.rules.specs.RecordGrounds.{ownTime, stateGround, openingGround, stateGrounds}
 use Rattle.rules.proofs.FirstGround.{then-left, then-right}
-use Rattle.rules.specs.Time.{stateOf, keep, codeAt, isState, count, stateTime}
+use Rattle.rules.specs.Time.{keep, codeAt, isState, count, stateTime}
 use Rattle.states.specs.Held.{fromOf}
 use Rattle.states.proofs.Table.{both-left, both-right, both}
 use Rattle.states.proofs.OneMore.{own-time, own-other}

@@ -1,7 +1,7 @@
 -- The states that the table's entries mark as uptime are productive, standby and engineering, so a module's time in the states that are marked is its uptime.
 -- Assumes nothing.
 use mathlib.Core.Path.{_≡_, refl}
-use mathlib.Core.Bool.{Bool, true, false, cond}
+use mathlib.Core.Bool.{true, false, cond}
 use mathlib.Core.List.{List}
 use Prim.Native.Nat.{ℕ, zero, suc, _+_, _-_, _*_, _≤_, _<_}
 use native.Mathlib.Nat.{le-refl, zero-add, suc-add}

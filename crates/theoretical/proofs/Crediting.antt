@@ -1,15 +1,12 @@
 -- The unit records tested and credited, one by one.
 -- Assumes nothing.
-use mathlib.Core.Path.{_≡_, refl, sym, ap, _∙_}
-use mathlib.Core.Bool.{Bool, true, false, not, cond}
+use mathlib.Core.Path.{_≡_, sym, ap, _∙_}
 use mathlib.Core.Option.{Option, none, some}
 use mathlib.Core.List.{List, [], _∷_, _++_}
-use Prim.Native.Nat.{ℕ, zero, suc, _+_, _*_, _^_, _≤_, _<_}
-use native.Mathlib.Nat.{mul-le-mul, add-assoc, le-trans, le-pred-of-lt}
-use native.Mathlib.Numerals.{add-one}
+use Prim.Native.Nat.{ℕ, _+_, _*_, _^_, _≤_, _<_}
+use native.Mathlib.Nat.{mul-le-mul, add-assoc}
 use native.Mathlib.Decide.{ℕ-discrete}
 use native.Mathlib.Omega.{arith}
-use lib.Dec.{lit≤}
 use lib.ListN.{length, getD, set, replicate, length-set, length-replicate, getD-replicate}
 use lib.Seq.{getD-set-same, getD-set-other}
 use borrow.Author.Tests.{eq-eqb, ne-eqb}
@@ -21,10 +18,10 @@ use Rattle.rules.specs.declared.Refusal.{Refusal}
 use Rattle.rules.specs.declared.Verdict.{Verdict}
 use Rattle.rules.specs.declared.Verdict.the-variants.{Accepted, Refused}
 use Rattle.rules.specs.Grounds.{ground, _then_, firstOf}
-use Rattle.rules.specs.Theoretical.{inForce, timeOf, credit, theoreticalTime}
+use Rattle.rules.specs.Theoretical.{inForce, credit, theoreticalTime}
 use Rattle.rules.specs.RecordGrounds.{isNone, unitGround, unitGrounds}
 use Rattle.rules.proofs.FirstGround.{then-assoc, refused-not, first-none, first-more, first-stop, turn-range}
-use Rattle.theoretical.specs.Credits.{Credited, ownGrounds, SumsSoFar, OneUnit, AllUnits}
+use Rattle.theoretical.specs.Credits.{ownGrounds, SumsSoFar, OneUnit, AllUnits}
 
 -- one unit record's credit is below 2 ^ 43
 pub credit-low : (units theoretical : ℕ) → units < 65536 → theoretical < 134217728 → units * theoretical < 2 ^ 43

@@ -6,7 +6,7 @@ ghost use lib.ListN.{getD, set, replicate};
 ghost use Rattle.records.specs.Log.{upTo, standardAt, unitAt};
 ghost use Rattle.records.specs.Covers.{Covers};
 ghost use Rattle.rules.specs.Theoretical.{inForce};
-ghost use Rattle.rules.specs.RecordGrounds.{isAmong, standardGround, unitGround};
+ghost use Rattle.rules.specs.RecordGrounds.{isAmong};
 ghost use Rattle.theoretical.specs.Chains.{lastOf, Rising, TimedApart, entryOf, entryIn, lookupOf};
 ghost use Rattle.theoretical.specs.Listing.{Chained, Listing, Tested, Added, AllListed};
 ghost use Rattle.theoretical.specs.Credits.{ownGrounds, SumsSoFar, OneUnit, AllUnits, Units};

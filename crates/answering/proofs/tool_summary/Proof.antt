@@ -1,7 +1,7 @@
 -- `answering::tool_summary` meets its contract: the log is judged, and the working totals hold its sums.
 -- Assumes nothing.
 use borrow.Author.Needs.{needs}
-use mathlib.Core.Path.{_≡_, _∙_}
+use mathlib.Core.Path.{_≡_}
 use Rattle.rules.specs.declared.Verdict.the-variants.{Accepted}
 use Rattle.answering.proofs.Answers.{tool-refused, tool-answered}
 use Rattle.answering.proofs.tool_summary.Statement.{statement}

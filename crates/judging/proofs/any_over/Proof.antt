@@ -1,7 +1,7 @@
 -- `judging::any_over` meets its contract: the first test that holds decides.
 -- Assumes nothing.
 use borrow.Author.Needs.{needs}
-use mathlib.Core.Path.{_≡_, refl, sym, _∙_}
+use mathlib.Core.Path.{refl, sym, _∙_}
 use Rattle.judging.proofs.any_over.Statement.{statement}
 use Rattle.judging.proofs.any_over.Tie as tie
 

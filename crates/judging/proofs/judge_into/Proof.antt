@@ -3,7 +3,6 @@
 use borrow.Author.Needs.{needs}
 use mathlib.Core.Path.{_≡_, sym, _∙_}
 use native.Mathlib.Omega.{arith}
-use Rattle.records.specs.Log.{decode}
 use Rattle.rules.specs.declared.Verdict.the-variants.{Accepted}
 use Rattle.rules.specs.Verdict.{headerGrounds}
 use Rattle.judging.proofs.Judging.{counted, judged-header, judged-states, judged-units, judged-sums, held, grounded, header-period, header-modules}

@@ -1,7 +1,7 @@
 -- `judging::judge_log` meets its contract: the arrays start at zero, and the header read first is the log's.
 -- Assumes nothing.
 use borrow.Author.Needs.{needs}
-use mathlib.Core.Path.{_≡_, refl, ap}
+use mathlib.Core.Path.{refl, ap}
 use Rattle.records.specs.declared.Header.{Header}
 use Rattle.records.specs.Log.{decode}
 use Rattle.judging.proofs.judge_log.Statement.{statement}

@@ -1,7 +1,7 @@
 -- `judging::over_times` meets its contract: the first test that holds decides.
 -- Assumes nothing.
 use borrow.Author.Needs.{needs}
-use mathlib.Core.Path.{_≡_, refl, sym, _∙_}
+use mathlib.Core.Path.{refl, sym, _∙_}
 use Rattle.judging.proofs.over_times.Statement.{statement}
 use Rattle.judging.proofs.over_times.Tie as tie
 

@@ -4,8 +4,6 @@ use borrow.Author.Needs.{needs}
 use mathlib.Core.Path.{_≡_, sym, ap, _∙_}
 use native.Mathlib.Omega.{arith}
 use Rattle.records.specs.Log.{decode}
-use Rattle.e79.specs.declared.Quantities.{Quantities}
-use Rattle.rules.specs.declared.StateTimes.{StateTimes}
 use Rattle.rules.specs.declared.Verdict.the-variants.{Accepted}
 use Rattle.rules.specs.Grounds.{firstOf}
 use Rattle.rules.specs.Quantities.{ofTool, toolTimes}

@@ -1,7 +1,7 @@
 -- `reporting::line_length` meets its contract: the quantities are the module's.
 -- Assumes nothing.
 use borrow.Author.Needs.{needs}
-use mathlib.Core.Path.{_≡_, ap, _∙_}
+use mathlib.Core.Path.{ap, _∙_}
 use lib.ListN.{length}
 use Rattle.e79.specs.declared.Quantities.{Quantities}
 use Rattle.report.specs.Report.{moduleLine}

@@ -1,10 +1,8 @@
 -- `reporting::put_line` meets its contract: the quantities are the module's, and they are ordered.
 -- Assumes nothing.
 use borrow.Author.Needs.{needs}
-use mathlib.Core.Path.{_≡_, sym, ap}
+use mathlib.Core.Path.{ap}
 use native.Mathlib.Omega.{arith}
-use Rattle.records.specs.Log.{decode}
-use Rattle.e79.specs.declared.Quantities.{Quantities}
 use Rattle.report.specs.Report.{moduleLine}
 use Rattle.report.proofs.Written.{read-as}
 use Rattle.reporting.proofs.put_line.Statement.{statement}

@@ -1,8 +1,7 @@
 -- `reporting::put_lines` meets its contract: the lines of the modules passed stand in the buffer.
 -- Assumes nothing.
-use borrow.Author.Needs.{needs}
 use mathlib.Core.Path.{_≡_, ap}
-use Prim.Native.Nat.{ℕ, _-_}
+use Prim.Native.Nat.{_-_}
 use native.Mathlib.Omega.{arith}
 use Rattle.records.specs.Log.{decode}
 use Rattle.rules.specs.Quantities.{ofModule}

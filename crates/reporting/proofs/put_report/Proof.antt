@@ -1,12 +1,10 @@
 -- `reporting::put_report` meets its contract: the heading, the modules' lines and the tool's line are put one behind the other.
 -- Assumes nothing.
 use borrow.Author.Needs.{needs}
-use mathlib.Core.Path.{_≡_, sym, ap}
-use Prim.Native.Nat.{ℕ}
+use mathlib.Core.Path.{ap}
 use Rattle.records.specs.Log.{decode}
-use Rattle.e79.specs.declared.Quantities.{Quantities}
-use Rattle.rules.specs.Quantities.{ofModule, ofTool}
-use Rattle.report.specs.Report.{heading, moduleLines, toolLine, Put}
+use Rattle.rules.specs.Quantities.{ofModule}
+use Rattle.report.specs.Report.{moduleLines, toolLine, Put}
 use Rattle.report.proofs.Written.{read-as}
 use Rattle.judging.proofs.Accepted.{tool-ordered}
 use Rattle.reporting.proofs.Reporting.{head-room, lines-room, tool-room, all-put}

@@ -1,6 +1,5 @@
 -- `states::uptime_of` meets its contract. The invariant: the sum is the time in those of the states passed that count.
 -- Assumes nothing.
-use borrow.Author.Needs.{needs}
 use mathlib.Core.Logic.{⊎-elim}
 use mathlib.Core.Path.{_≡_, sym, ap, _∙_}
 use mathlib.Core.Bool.{Bool, false}

@@ -13,7 +13,6 @@ use Rattle.records.specs.Log.{upTo, standardAt, unitAt}
 use Rattle.records.proofs.Widths.{standard-fits, unit-fits}
 use Rattle.rules.specs.Theoretical.{inForce, Answers}
 use Rattle.rules.proofs.InForce.{in-force}
-use Rattle.theoretical.specs.declared.Lookup.{Lookup}
 use Rattle.theoretical.specs.declared.Lookup.the-variants.{Found, Nothing}
 use Rattle.theoretical.specs.Chains.{lookupOf}
 use Rattle.theoretical.proofs.Crediting.{unit-own, unit-none, unit-credited}

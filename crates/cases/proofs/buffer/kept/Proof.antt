@@ -1,10 +1,10 @@
 -- The places from `from` on and below i hold the pattern. Assumes nothing.
 use borrow.Author.Needs.{needs}
-use borrow.Author.Count.{below-none, below-more}
+use borrow.Author.Count.{below-more}
 use mathlib.Core.Path.{_≡_, sym, _∙_}
 use Prim.Native.Nat.{ℕ, _≤_, _<_, _-_}
 use native.Mathlib.Omega.{arith}
-use lib.ListN.{length, getD}
+use lib.ListN.{getD}
 use Rattle.cases.proofs.Answers.{is-so, is-not}
 use Rattle.cases.specs.Buffer.{patternAt}
 use Rattle.cases.proofs.buffer.kept.Statement.{statement}

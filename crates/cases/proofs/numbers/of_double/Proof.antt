@@ -2,9 +2,9 @@
 use borrow.Author.Needs.{needs}
 use borrow.Author.Tests.{eq-eqb}
 use mathlib.Core.Path.{_≡_, refl, sym, _∙_}
-use mathlib.Core.Bool.{Bool, true, false, not, true≢false, false≢true}
+use mathlib.Core.Bool.{true, false, not, true≢false, false≢true}
 use Prim.Native.Nat.{_*_}
-use lib.Dec.{T, eqb}
+use lib.Dec.{T}
 use lib.Ieee.{Float, nan, inf, fin, up, down, binary64, eq, isNan, toBits}
 use Rattle.cases.proofs.numbers.of_double.Statement.{statement}
 use Rattle.cases.proofs.numbers.of_double.Tie as tie

@@ -1,6 +1,6 @@
 -- `judging::sums::tool_times` meets its contract: each state's total is summed over the modules.
 -- Assumes nothing.
-use mathlib.Core.Path.{_≡_, _∙_}
+use mathlib.Core.Path.{_∙_}
 use native.Mathlib.Omega.{arith}
 use Rattle.records.specs.Log.{decode}
 use Rattle.judging.proofs.ToolSums.{state-room, state-sum}
