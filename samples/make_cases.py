@@ -11,6 +11,16 @@ from make import HOUR, WEEK, case_w, guidebook, log, r1_1, r1_2
 
 # The kinds of a case, as crates/cases/src/main.rt has them.
 REPORT, MODULE_TIMES, TOOL_TIMES, MODULE_QUANTITIES, TOOL_QUANTITIES, MODULE_DOUBLES, TOOL_DOUBLES, WRITE, PRINT = range(9)
+OF_MODULE = MODULE_TIMES, MODULE_QUANTITIES, MODULE_DOUBLES
+OF_TOOL = TOOL_TIMES, TOOL_QUANTITIES, TOOL_DOUBLES
+CALLED = {
+    MODULE_TIMES: "module times",
+    TOOL_TIMES: "tool times",
+    MODULE_QUANTITIES: "module quantities",
+    TOOL_QUANTITIES: "tool quantities",
+    MODULE_DOUBLES: "module doubles",
+    TOOL_DOUBLES: "tool doubles",
+}
 NO_BASE = 2**64 - 1
 
 HEADING = "module avail oper rate qual oee\n"
@@ -147,12 +157,8 @@ def answered(*numbers):
     return (0, *numbers, 0)[:7]
 
 
-def turned_back(number, in_list=0, place=0):
-    return (number, in_list, place, 0, 0, 0, 0)
-
-
 def in_ms(hours):
-    """Hours as 002 prints them."""
+    """Hours as the papers print them, in whole ms."""
     times = [Fraction(count) * HOUR for count in hours.split()]
     assert all(time.denominator == 1 for time in times)
     return [int(time) for time in times]
@@ -192,14 +198,14 @@ def doubles(total, uptime, production, actual, effective):
 
 def three_calls(name, data, module, times, quantities):
     """The state times, the quantities and the doubles of a module, or of the tool where the module is None."""
-    kinds = (TOOL_TIMES, TOOL_QUANTITIES, TOOL_DOUBLES) if module is None else (MODULE_TIMES, MODULE_QUANTITIES, MODULE_DOUBLES)
-    answers = [("state times", times), ("quantities", quantities), ("doubles", doubles(*quantities))]
-    return [(kind, f"{name}, {what}", data, module or 0, answered(*numbers)) for kind, (what, numbers) in zip(kinds, answers)]
+    kinds = OF_TOOL if module is None else OF_MODULE
+    answers = [times, quantities, doubles(*quantities)]
+    return [(kind, f"{name}, {CALLED[kind]}", data, module or 0, answered(*numbers)) for kind, numbers in zip(kinds, answers)]
 
 
-def all_refused(name, data, module, answer, kinds=range(MODULE_TIMES, TOOL_DOUBLES + 1)):
-    """A log or a module that the calls turn back."""
-    return [(kind, f"{name}, call {kind}", data, module, answer) for kind in kinds]
+def turned_back_by(kinds, name, data, module, number, in_list=0, place=0):
+    """A log or a module that these calls turn back."""
+    return [(kind, f"{name}, {CALLED[kind]}", data, module, (number, in_list, place, 0, 0, 0, 0)) for kind in kinds]
 
 
 # 002, R1-1.1: productive, standby, engineering, scheduled down, unscheduled down and nonscheduled time.
@@ -239,41 +245,44 @@ W_QUANTITIES = [
     (WEEK, WEEK, 288_000_000, 150 * 1_800_000, 150 * 1_800_000),
 ]
 
+# 003, section 2.5: the hours of the states, 28 of them scheduled down. 573 wafers at 2.5 minutes and 1,101 at 3.3 are the 5,065.8 minutes of
+# document 01; 524 and 1,030 of them are good.
+GUIDEBOOK_TIMES = in_ms("102.4 24.6 5.0 28 8 0")
+GUIDEBOOK_QUANTITIES = in_ms(f"168.0 132.0 102.4 {Fraction('5065.8') / 60} {(524 * Fraction('2.5') + 1030 * Fraction('3.3')) / 60}")
+
 LONGEST_PERIOD = 31_622_400_000
+GREATEST = 64 * LONGEST_PERIOD
+
+NO_UPTIME = log(10, 1, [(0, 22, 0)], [], [])
 
 # kind, name, log, module, expected numbers
 CALLS = [
     *three_calls("R1-1", r1_1(), 0, R1_1_TIMES, R1_1_QUANTITIES),
-    *three_calls("R1-1 tool", r1_1(), None, R1_1_TIMES, R1_1_QUANTITIES),
+    *three_calls("R1-1", r1_1(), None, R1_1_TIMES, R1_1_QUANTITIES),
     *three_calls("R1-2 A", r1_2(), 0, R1_2_TIMES[0], R1_2_QUANTITIES[0]),
     *three_calls("R1-2 B", r1_2(), 1, R1_2_TIMES[1], R1_2_QUANTITIES[1]),
     *three_calls("R1-2 C", r1_2(), 2, R1_2_TIMES[2], R1_2_QUANTITIES[2]),
-    *three_calls("R1-2 tool", r1_2(), None, sums(*R1_2_TIMES), R1_2_TOOL),
-    *three_calls("case W module 0", case_w(), 0, W_TIMES[0], W_QUANTITIES[0]),
-    *three_calls("case W module 1", case_w(), 1, W_TIMES[1], W_QUANTITIES[1]),
-    *three_calls("case W module 2", case_w(), 2, W_TIMES[2], W_QUANTITIES[2]),
-    *three_calls("case W tool", case_w(), None, sums(*W_TIMES), sums(*W_QUANTITIES)),
+    *three_calls("R1-2", r1_2(), None, sums(*R1_2_TIMES), R1_2_TOOL),
+    *three_calls("003", guidebook(), 0, GUIDEBOOK_TIMES, GUIDEBOOK_QUANTITIES),
+    *three_calls("case W 0", case_w(), 0, W_TIMES[0], W_QUANTITIES[0]),
+    *three_calls("case W 1", case_w(), 1, W_TIMES[1], W_QUANTITIES[1]),
+    *three_calls("case W 2", case_w(), 2, W_TIMES[2], W_QUANTITIES[2]),
+    *three_calls("case W", case_w(), None, sums(*W_TIMES), sums(*W_QUANTITIES)),
     # no base: no uptime, and no unit made
-    *three_calls("11 no uptime", log(10, 1, [(0, 22, 0)], [], []), 0, (0, 0, 0, 0, 0, 10), (10, 0, 0, 0, 0)),
-    *three_calls("11 tool", log(10, 1, [(0, 22, 0)], [], []), None, (0, 0, 0, 0, 0, 10), (10, 0, 0, 0, 0)),
+    *three_calls("11 no uptime", NO_UPTIME, 0, (0, 0, 0, 0, 0, 10), (10, 0, 0, 0, 0)),
+    *three_calls("11 no uptime", NO_UPTIME, None, (0, 0, 0, 0, 0, 10), (10, 0, 0, 0, 0)),
     *three_calls("no units", productive(10), 0, (10, 0, 0, 0, 0, 0), (10, 10, 10, 0, 0)),
-    # the greatest sums: 64 modules of 366 days
-    *three_calls(
-        "64 modules of 366 days",
-        productive(LONGEST_PERIOD, 64),
-        None,
-        (64 * LONGEST_PERIOD, 0, 0, 0, 0, 0),
-        (64 * LONGEST_PERIOD, 64 * LONGEST_PERIOD, 64 * LONGEST_PERIOD, 0, 0),
-    ),
+    # the greatest sums
+    *three_calls("64 modules of 366 days", productive(LONGEST_PERIOD, 64), None, (GREATEST, 0, 0, 0, 0, 0), (GREATEST, GREATEST, GREATEST, 0, 0)),
     # a refused log answers its refusal, also where the module is a stray one
-    *all_refused("no bytes", b"", 0, turned_back(1)),
-    *all_refused("code 24", changed(24, 5), 0, turned_back(8, 1, 1)),
-    *all_refused("no standard", made(TWO[1:], (3, 1, 1)), 0, turned_back(15, 3, 0)),
-    *all_refused("no opening of module 2", productive(10, 3, 2), 1, turned_back(11, 0, 2)),
-    *all_refused("one byte short, module 9", case_w()[:-1], 9, turned_back(5)),
+    *turned_back_by(CALLED, "no bytes", b"", 0, 1),
+    *turned_back_by(CALLED, "code 24", changed(24, 5), 0, 8, 1, 1),
+    *turned_back_by(CALLED, "no standard", made(TWO[1:], (3, 1, 1)), 0, 15, 3, 0),
+    *turned_back_by(CALLED, "no opening of module 2", productive(10, 3, 2), 1, 11, 0, 2),
+    *turned_back_by(CALLED, "one byte short, module 9", case_w()[:-1], 9, 5),
     # a module that an accepted log does not have
-    *all_refused("stray module 3", case_w(), 3, turned_back(7, 0, 3), (MODULE_TIMES, MODULE_QUANTITIES, MODULE_DOUBLES)),
-    *all_refused("stray module 2^32 - 1", case_w(), 2**32 - 1, turned_back(7, 0, 2**32 - 1), (MODULE_TIMES, MODULE_QUANTITIES, MODULE_DOUBLES)),
+    *turned_back_by(OF_MODULE, "stray module 3", case_w(), 3, 7, 0, 3),
+    *turned_back_by(OF_MODULE, "stray module 2^32 - 1", case_w(), 2**32 - 1, 7, 0, 2**32 - 1),
 ]
 
 # ---- what has to differ, so that it is seen that the program compares and tells

@@ -1,3 +1,4 @@
 pub mod Buffer
 pub mod Numbers
+pub mod Right
 pub mod Texts

@@ -13,13 +13,16 @@ mod buffer;
 mod numbers;
 mod texts;
 
-ghost use Prim.Native.Nat.{_≤_};
+ghost use mathlib.Core.Path.{_≡_};
+ghost use mathlib.Core.Bool.{true};
+ghost use Prim.Native.Nat.{min};
+ghost use Rattle.cases.specs.Right.{Right};
 use libc::STDIN_FILENO;
 use libc::STDOUT_FILENO;
 use std::num::wrapping_add_usize;
 
 fn least(a: usize, b: usize) -> usize
-    ensures { λ r. ⌜ (r ≤ a) × (r ≤ b) ⌝ }
+    ensures { λ r. ⌜ r ≡ min a b ⌝ }
 {
     if a < b { a } else { b }
 }
@@ -36,7 +39,9 @@ fn number(data: &[u8], at: usize, width: usize) -> usize {
 }
 
 // Whether a case is answered as expected. Behind the part of a buffer that is lent stand 32 bytes more.
-fn as_expected(kind: usize, log: &[u8], asked: usize, expected: &[u8]) -> bool {
+fn as_expected(kind: usize, log: &[u8], asked: usize, expected: &[u8]) -> bool
+    ensures { λ r. ⌜ (r ≡ true → Right kind (now (log .entry)) asked (now (expected .entry))) ⌝ }
+{
     let mut space = [0u8; 2526];
     let room = least(asked, 2494);
     match kind {

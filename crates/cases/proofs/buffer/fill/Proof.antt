@@ -10,9 +10,6 @@ use lib.Seq.{getD-set-same, getD-set-other}
 use Rattle.cases.specs.Buffer.{patternAt}
 use Rattle.cases.proofs.buffer.fill.Statement.{statement}
 use Rattle.cases.proofs.buffer.fill.Tie as tie
-use Rattle.cases.proofs.buffer.fill.Reads as reads
-use Rattle.cases.proofs.buffer.fill.Lts as lts
-use Rattle.cases.proofs.buffer.pattern.Reads as pattern-reads
 
 -- the pattern stored at i, behind places that hold it
 more : (s : List ℕ) (i v : ℕ) → i < length s → v ≡ patternAt i → ((k : ℕ) → k < i → getD s k 0 ≡ patternAt k) → (k : ℕ) → k < i + 1 → getD (set s i v) k 0 ≡ patternAt k
@@ -28,23 +25,8 @@ abbrev μ-loop : tie.MeasureT-loop
 loop-holds : tie.Need-loop-holds Inv-loop μ-loop
 loop-holds c = (search needs, search needs, below-none _)
 
-pattern-requires : tie.Need-pattern-requires Inv-loop μ-loop
-pattern-requires c κs = search needs
-
-slice-write-space : tie.Need-slice-write-space Inv-loop μ-loop
-slice-write-space c = search needs
-
-add-i : tie.Need-add-i Inv-loop μ-loop
-add-i c = search needs
-
-loop-less : tie.Need-loop-less Inv-loop μ-loop
-loop-less c = search needs
-
 loop-again : tie.Need-loop-again Inv-loop μ-loop
 loop-again c = (search needs, search needs, more (c .before .before .loop .space) _ _ (search needs) (c .pattern .ensures) (c .before .before .loop .inv .2))
-
-same-length : tie.Need-same-length Inv-loop μ-loop
-same-length c = search needs
 
 returns : tie.Need-returns Inv-loop μ-loop
 returns c = (c .before .loop .inv .1, λ k z l. c .before .loop .inv .2 k (omega arith))
@@ -56,10 +38,10 @@ fill-spec =
     Inv-loop
     μ-loop
     loop-holds
-    pattern-requires
-    slice-write-space
-    add-i
-    loop-less
+    (λ c κs. search needs)
+    (λ c. search needs)
+    (λ c. search needs)
+    (λ c. search needs)
     loop-again
-    same-length
+    (λ c. search needs)
     returns)

@@ -9,9 +9,6 @@ use Rattle.cases.proofs.Answers.{is-so, is-not}
 use Rattle.cases.specs.Buffer.{patternAt}
 use Rattle.cases.proofs.buffer.kept.Statement.{statement}
 use Rattle.cases.proofs.buffer.kept.Tie as tie
-use Rattle.cases.proofs.buffer.kept.Reads as reads
-use Rattle.cases.proofs.buffer.kept.Lts as lts
-use Rattle.cases.proofs.buffer.pattern.Reads as pattern-reads
 
 abbrev Inv-loop : tie.InvT-loop
 Inv-loop space from n i₀ i = (from ≤ i) × ((k : ℕ) → k < i → from ≤ k → getD space k 0 ≡ patternAt k)
@@ -22,20 +19,8 @@ abbrev μ-loop : tie.MeasureT-loop
 loop-holds : tie.Need-loop-holds Inv-loop μ-loop
 loop-holds c = (search needs, λ k l m. absurd (omega arith))
 
-shared-slice-read-if1 : tie.Need-shared-slice-read-if1 Inv-loop μ-loop
-shared-slice-read-if1 c = search needs
-
-pattern-requires : tie.Need-pattern-requires Inv-loop μ-loop
-pattern-requires c κs = search needs
-
 returns : tie.Need-returns Inv-loop μ-loop
 returns c = is-not (λ all. c .if1 .taken (all _ (search needs) (search needs) ∙ sym (c .before .pattern .ensures)))
-
-add-i : tie.Need-add-i Inv-loop μ-loop
-add-i c = search needs
-
-loop-less : tie.Need-loop-less Inv-loop μ-loop
-loop-less c = search needs
 
 loop-again : tie.Need-loop-again Inv-loop μ-loop
 loop-again c = (search needs, below-more _ _ (c .before .before .before .before .loop .inv .1) (λ m. c .if1 .left ∙ c .before .pattern .ensures))
@@ -50,10 +35,10 @@ kept-spec =
     Inv-loop
     μ-loop
     loop-holds
-    shared-slice-read-if1
-    pattern-requires
+    (λ c. search needs)
+    (λ c κs. search needs)
     returns
-    add-i
-    loop-less
+    (λ c. search needs)
+    (λ c. search needs)
     loop-again
     returns-2)

@@ -10,8 +10,6 @@ use lib.Seq.{length-take-le}
 use Rattle.cases.proofs.Answers.{is-not}
 use Rattle.cases.proofs.buffer.left.Statement.{statement}
 use Rattle.cases.proofs.buffer.left.Tie as tie
-use Rattle.cases.proofs.buffer.left.Reads as reads
-use Rattle.cases.proofs.buffer.left.Lts as lts
 
 within : (t s : List ℕ) → take (length t) s ≡ t → length t ≤ length s
 within t s e = omega (arith, ap length e, length-take (length t) s)

@@ -4,7 +4,6 @@ use mathlib.Core.Path.{sym, ap, _∙_}
 use Rattle.cases.specs.Numbers.{ofFigures}
 use Rattle.cases.proofs.numbers.of_figures.Statement.{statement}
 use Rattle.cases.proofs.numbers.of_figures.Tie as tie
-use Rattle.cases.proofs.numbers.of_figures.Lts as lts
 
 returns : tie.Need-returns
 returns c =

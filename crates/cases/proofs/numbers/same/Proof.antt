@@ -9,9 +9,6 @@ use Rattle.bits.specs.Bits.{field}
 use Rattle.cases.proofs.Answers.{is-so, is-not}
 use Rattle.cases.proofs.numbers.same.Statement.{statement}
 use Rattle.cases.proofs.numbers.same.Tie as tie
-use Rattle.cases.proofs.numbers.same.Reads as reads
-use Rattle.cases.proofs.numbers.same.Lts as lts
-use Rattle.bits.proofs.read_word.Reads as read-word-reads
 
 abbrev Inv-loop : tie.InvT-loop
 Inv-loop numbers bytes i₀ i = (i ≤ 7) × ((k : ℕ) → k < i → field bytes (64 * k) 64 ≡ getD numbers k 0)
@@ -25,26 +22,8 @@ returns c = is-not (λ n. c .if1 .taken (n .size))
 loop-holds : tie.Need-loop-holds Inv-loop μ-loop
 loop-holds c = (search needs, below-none _)
 
-mul-read-word : tie.Need-mul-read-word Inv-loop μ-loop
-mul-read-word c = search needs
-
-read-word-requires : tie.Need-read-word-requires Inv-loop μ-loop
-read-word-requires c κs = search needs
-
-mul-if2 : tie.Need-mul-if2 Inv-loop μ-loop
-mul-if2 c = search needs
-
-element-copy-out-if2 : tie.Need-element-copy-out-if2 Inv-loop μ-loop
-element-copy-out-if2 c = search needs
-
 returns-2 : tie.Need-returns-2 Inv-loop μ-loop
 returns-2 c = is-not (λ n. c .if2 .taken (c .before .before .read-word .ensures ∙ n .each _ (search needs)))
-
-add-i : tie.Need-add-i Inv-loop μ-loop
-add-i c = search needs
-
-loop-less : tie.Need-loop-less Inv-loop μ-loop
-loop-less c = search needs
 
 loop-again : tie.Need-loop-again Inv-loop μ-loop
 loop-again c = (search needs, below-more _ _ (c .before .before .before .before .loop .inv .1) (sym (c .before .before .read-word .ensures) ∙ c .if2 .left))
@@ -60,12 +39,12 @@ same-spec =
     μ-loop
     returns
     loop-holds
-    mul-read-word
-    read-word-requires
-    mul-if2
-    element-copy-out-if2
+    (λ c. search needs)
+    (λ c κs. search needs)
+    (λ c. search needs)
+    (λ c. search needs)
     returns-2
-    add-i
-    loop-less
+    (λ c. search needs)
+    (λ c. search needs)
     loop-again
     returns-3)

@@ -1,0 +1,18 @@
+-- What is right of a case that is not told: what it expects is what the definitions give. Definitions only.
+use mathlib.Core.Path.{_≡_}
+use mathlib.Core.List.{List}
+use Prim.Native.Nat.{ℕ, _≤_, min}
+use Rattle.reporting.specs.Reports.{writtenPart, printed}
+use Rattle.cases.specs.Numbers.{answersOf, Numbers}
+use Rattle.cases.specs.Texts.{textFor}
+
+-- how many bytes are lent where so many are asked for
+abbrev pub lent : ℕ → ℕ
+lent asked = min asked 2494
+
+-- by the kind of the case, the log, what is asked for beside it, and what is expected
+pub data Right (kind : ℕ) (s : List ℕ) (asked : ℕ) (expected : List ℕ) : Type 0 where
+  by-report : kind ≡ 0 → expected ≡ textFor s (lent asked) → Right kind s asked expected
+  by-numbers : 1 ≤ kind → kind ≤ 6 → Numbers expected (answersOf kind s asked) → Right kind s asked expected
+  by-write : kind ≡ 7 → expected ≡ writtenPart s (lent asked) → Right kind s asked expected
+  by-print : kind ≡ 8 → expected ≡ printed s → Right kind s asked expected
