@@ -26,6 +26,7 @@ NO_BASE = 2**64 - 1
 HEADING = "module avail oper rate qual oee\n"
 LONGEST_REPORT = 2494
 ROOM = 200  # enough for three modules
+MORE = 4096  # more than every report, and as much as `cases` lends
 
 CASE_W = (
     HEADING
@@ -113,17 +114,19 @@ REPORTS = [
     ("14 99,996 over 100,000", up(99_996, 100_000), ROOM, of_one_module(PRODUCTIVE)),
     ("6,000 state records", changes(6_000), ROOM, of_one_module(PRODUCTIVE)),
     ("6,001 state records", changes(6_001), ROOM, refused(4)),
-    ("case W in 2,494 bytes", case_w(), LONGEST_REPORT, CASE_W),
+    ("case W in 4,096 bytes", case_w(), MORE, CASE_W),
     ("case W in 183 bytes", case_w(), 183, CASE_W),
     ("case W in 182 bytes", case_w(), 182, refused(18)),
     ("case W in no bytes", case_w(), 0, refused(18)),
     ("longest report", full_speed(64), LONGEST_REPORT, lines(64, FULL_SPEED)),
     ("longest report, 1 short", full_speed(64), LONGEST_REPORT - 1, refused(18)),
+    ("longest report in 4,096 bytes", full_speed(64), MORE, lines(64, FULL_SPEED)),
     ("R1-1", r1_1(), ROOM, of_one_module(R1_1)),
     ("R1-2", r1_2(), ROOM, CASE_W),  # the figures of case W are R1-2's
     ("worked example of 003", guidebook(), ROOM, of_one_module(GUIDEBOOK)),
     ("one byte short", case_w()[:-1], ROOM, refused(5)),
     ("one byte long", case_w() + b"\0", ROOM, refused(5)),
+    ("one byte long, 4,096 bytes", case_w() + b"\0", MORE, refused(5)),
     ("70,000 bytes", case_w() + bytes(70_000 - 100), ROOM, refused(5)),
     ("70,000 zeros", bytes(70_000), ROOM, refused(2)),
     ("no bytes for no buffer", b"", 0, refused(1)),
@@ -136,6 +139,7 @@ WRITES = [
     ("W in no bytes, write", case_w(), 0, ""),
     ("W cut short, write", case_w()[:-1], ROOM, ""),
     ("longest report, write", full_speed(64), LONGEST_REPORT, lines(64, FULL_SPEED)),
+    ("one byte long, write", case_w() + b"\0", MORE, ""),
 ]
 
 # for `print_report`: name, log, expected text

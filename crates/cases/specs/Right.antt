@@ -8,7 +8,7 @@ use Rattle.cases.specs.Texts.{textFor}
 
 -- how many bytes are lent where so many are asked for
 abbrev pub lent : ℕ → ℕ
-lent asked = min asked 2494
+lent asked = min asked 4096
 
 -- by the kind of the case, the log, what is asked for beside it, and what is expected
 pub data Right (kind : ℕ) (s : List ℕ) (asked : ℕ) (expected : List ℕ) : Type 0 where

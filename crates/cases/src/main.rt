@@ -42,8 +42,8 @@ fn number(data: &[u8], at: usize, width: usize) -> usize {
 fn as_expected(kind: usize, log: &[u8], asked: usize, expected: &[u8]) -> bool
     ensures { λ r. ⌜ (r ≡ true → Right kind (now (log .entry)) asked (now (expected .entry))) ⌝ }
 {
-    let mut space = [0u8; 2526];
-    let room = least(asked, 2494);
+    let mut space = [0u8; 4128];
+    let room = least(asked, 4096);
     match kind {
         0 => texts::reports(log, &mut space[..room + 32], room, expected),
         1..=6 => numbers::as_expected(kind, log, asked, expected),

@@ -6,16 +6,17 @@ ghost use Prim.Native.Nat.{_≤_};
 ghost use lib.ListN.{length};
 ghost use Rattle.report.specs.Report.{refusedLine};
 ghost use Rattle.reporting.specs.Reports.{writtenPart, printed};
-ghost use Rattle.cases.specs.Texts.{textFor};
+ghost use Rattle.cases.specs.Buffer.{Left};
+ghost use Rattle.cases.specs.Texts.{textFor, Seen};
 use crate::buffer;
 use rules::Refusal;
 use rules::Verdict;
 
 // Whether `report`, lent the first `room` bytes of the buffer, hands back the text, leaves it at the front and changes no other byte of the buffer.
-// Its contract cannot speak of the bytes behind the part that it hands back: they are seen in this run alone.
+// The contract of `report` cannot speak of the bytes behind the part that it hands back: they are seen here alone.
 fn hands_back(log: &[u8], space: &mut [u8], room: usize, text: &[u8]) -> bool
     requires { ⌜ room ≤ length (now space) ⌝ }
-    ensures { λ r. ⌜ (r ≡ true → now (text .entry) ≡ writtenPart (now (log .entry)) room) ⌝ }
+    ensures { λ r. ⌜ (r ≡ true → Seen (now (log .entry)) room (now (text .entry)) (now (space .exit))) ⌝ }
 {
     buffer::fill(space);
     let part = tool_log::report(log, &mut space[..room]);
@@ -36,6 +37,7 @@ fn says(x: Refusal, expected: &[u8]) -> bool
 pub fn reports(log: &[u8], space: &mut [u8], room: usize, expected: &[u8]) -> bool
     requires { ⌜ room ≤ length (now space) ⌝ }
     ensures { λ r. ⌜ (r ≡ true → now (expected .entry) ≡ textFor (now (log .entry)) room) ⌝ }
+    ensures { λ r. ⌜ (r ≡ true → Left (writtenPart (now (log .entry)) room) (now (space .exit))) ⌝ }
 {
     let verdict = tool_log::examine(log, room);
     match verdict {

@@ -19,7 +19,7 @@ slice-aggregate-writes c = sym (length-take-le _ _ (search needs))
 returns : tie.Need-returns
 returns c e =
     let arm = c .before .before .before in
-    by-report (arm .match .keys1) (c .before .reports .ensures e ∙ ap (textFor _) (arm .before .least .ensures))
+    by-report (arm .match .keys1) (c .before .reports .ensures .0 e ∙ ap (textFor _) (arm .before .least .ensures))
 
 returns-2 : tie.Need-returns-2
 returns-2 c e =

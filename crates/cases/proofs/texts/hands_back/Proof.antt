@@ -1,6 +1,7 @@
--- The part that is handed back is the text, and by its contract what the buffer's length calls for. Assumes nothing.
+-- The part that is handed back is the text, and by its contract what the buffer's length calls for; the buffer is compared whole. Assumes nothing.
 use borrow.Author.Needs.{needs}
 use mathlib.Core.Path.{sym, ap, _∙_}
+use mathlib.Core.Bool.{false≢true}
 use lib.Seq.{length-take-le}
 use Rattle.reporting.specs.Reports.{writtenPart}
 use Rattle.cases.proofs.texts.hands_back.Statement.{statement}
@@ -13,13 +14,13 @@ returns : tie.Need-returns
 returns c e =
     let back = c .before .before .before .before .before in
     let called = back .before .before in
-    sym (back .same .ensures .0 (c .before .before .if1 .taken)) ∙ called .report .ensures .bytes ∙ ap (writtenPart _) (sym (slice-aggregate-report (called .before)))
+    record {
+      due = sym (back .same .ensures .0 (c .before .before .if1 .taken)) ∙ called .report .ensures .bytes ∙ ap (writtenPart _) (sym (slice-aggregate-report (called .before)));
+      bytes = c .left .ensures .0 e;
+    }
 
 returns-2 : tie.Need-returns-2
-returns-2 c e =
-    let back = c .before .before .before in
-    let called = back .before .before in
-    sym (back .same .ensures .0 e) ∙ called .report .ensures .bytes ∙ ap (writtenPart _) (sym (slice-aggregate-report (called .before)))
+returns-2 c e = absurd (false≢true (sym (c .if1 .left) ∙ e))
 
 pub hands-back-spec : {M : Type 1} → statement M
 hands-back-spec =
