@@ -197,8 +197,8 @@ pub fn write_report(log: &[u8], buf: &mut [u8]) -> usize
     ensures { λ r. ⌜ Written (now (log .entry)) (now (buf .entry)) r (now (buf .exit)) ⌝ }
 {
     let j = judging::judge_log(log);
-    let verdict = j.verdict;
-    if let Verdict::Refused(_) = verdict {
+    let answer = j.verdict;
+    if let Verdict::Refused(_) = answer {
         return 0;
     }
     if buf.len()
