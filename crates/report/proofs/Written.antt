@@ -5,7 +5,7 @@ use Prim.Native.Nat.{ℕ, zero, suc, _+_, _≤_}
 use native.Mathlib.Nat.{zero-add, suc-add, le-refl}
 use native.Mathlib.Omega.{arith}
 use lib.ListN.{length, take, drop, length-append, drop-of-length-le}
-use lib.Seq.{paste, take-length, length-paste, take-paste, drop-paste, drop-drop, take-at, drop-at, take-append-seam, drop-append-add, drop-nil, take-all, length-take-le}
+use lib.Seq.{paste, take-length, length-paste, drop-paste, drop-drop, take-at, drop-at, take-append-seam, drop-append-add, drop-nil, take-all, length-take-le}
 use Rattle.report.specs.Report.{written, Put}
 
 -- a whole text pasted in
@@ -17,18 +17,12 @@ pub written-front : (s xs : List ℕ) → written s 0 xs ≡ xs ++ drop (length 
 unfolding written
 written-front s xs = rw zero-add
 
-pub front-text : (s xs : List ℕ) → take (length xs) (written s 0 xs) ≡ xs
-front-text s xs = rw written-front (take-append-seam xs (drop (length xs) s))
-
 module _ (s : List ℕ) (at : ℕ) (xs : List ℕ) (room : at + length xs ≤ length s) where
   starts : at ≤ length s
   starts = omega arith
 
   pub written-length : length (written s at xs) ≡ length s
   written-length = rw written-paste (length-paste s at xs (length xs) room (le-refl (length xs)))
-
-  pub written-to : take (at + length xs) (written s at xs) ≡ take at s ++ xs
-  written-to = rw written-paste (take-paste s at xs (length xs) starts (le-refl (length xs)) ∙ rw take-length)
 
   pub written-behind : drop (at + length xs) (written s at xs) ≡ drop (at + length xs) s
   written-behind = rw written-paste (drop-paste s at xs (length xs) starts (le-refl (length xs)))

@@ -168,10 +168,6 @@ pub walk-start : (at : ℕ → Standard) (n recipe link : ℕ) → link ≡ last
 walk-start at n recipe link e = record { within = rw e (last-le at recipe n); own = λ i q. last-is at recipe n i (sym e ∙ q) }
 
 module _ (at : ℕ → Standard) (n recipe : ℕ) where
-  pub walk-recipe : (link : ℕ) → 0 < link → Walk at n recipe link → at (pred link) .recipe ≡ recipe
-  walk-recipe zero pos w = absurd (omega arith)
-  walk-recipe (suc i) pos w = w .own i refl
-
   pub walk-next : (link next : ℕ) → 0 < link → Walk at n recipe link → next ≡ lastOf at (at (pred link) .recipe) (pred link) → (Walk at n recipe next) × (next < link)
   walk-next zero next pos w e = absurd (omega arith)
   walk-next (suc i) next pos w e =
