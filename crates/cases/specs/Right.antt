@@ -2,7 +2,7 @@
 use mathlib.Core.Path.{_≡_}
 use mathlib.Core.List.{List}
 use Prim.Native.Nat.{ℕ, _≤_, min}
-use Rattle.reporting.specs.Reports.{writtenPart, printed}
+use Rattle.reporting.specs.Reports.{writtenPart, reportText, printed}
 use Rattle.cases.specs.Numbers.{answersOf, Numbers}
 use Rattle.cases.specs.Texts.{textFor}
 
@@ -15,4 +15,4 @@ pub data Right (kind : ℕ) (s : List ℕ) (asked : ℕ) (expected : List ℕ) :
   by-report : kind ≡ 0 → expected ≡ textFor s (lent asked) → Right kind s asked expected
   by-numbers : 1 ≤ kind → kind ≤ 6 → Numbers expected (answersOf kind s asked) → Right kind s asked expected
   by-write : kind ≡ 7 → expected ≡ writtenPart s (lent asked) → Right kind s asked expected
-  by-print : kind ≡ 8 → expected ≡ printed s → Right kind s asked expected
+  by-print : kind ≡ 8 → expected ≡ printed reportText s → Right kind s asked expected

@@ -5,7 +5,7 @@ ghost use mathlib.Core.Logic.{_↔_};
 ghost use Prim.Native.Nat.{_≤_};
 ghost use lib.ListN.{length};
 ghost use Rattle.report.specs.Report.{refusedLine};
-ghost use Rattle.reporting.specs.Reports.{writtenPart, printed};
+ghost use Rattle.reporting.specs.Reports.{writtenPart, reportText, printed};
 ghost use Rattle.cases.specs.Buffer.{Left};
 ghost use Rattle.cases.specs.Texts.{textFor, Seen};
 use crate::buffer;
@@ -58,7 +58,7 @@ pub fn writes(log: &[u8], space: &mut [u8], room: usize, text: &[u8]) -> bool
 
 // The same of `print_report`, which takes a whole array.
 pub fn prints(log: &[u8], text: &[u8]) -> bool
-    ensures { λ r. ⌜ (r ≡ true → now (text .entry) ≡ printed (now (log .entry))) ⌝ }
+    ensures { λ r. ⌜ (r ≡ true → now (text .entry) ≡ printed reportText (now (log .entry))) ⌝ }
 {
     let mut space = [0u8; 2494];
     buffer::fill(&mut space);

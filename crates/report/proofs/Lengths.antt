@@ -11,7 +11,7 @@ use Rattle.rules.specs.declared.Refusal.{Refusal}
 use Rattle.e79.specs.declared.Quantities.{Quantities}
 use Rattle.e79.specs.Quantities.{based}
 use Rattle.e79.specs.Printed.{printedOf}
-use Rattle.report.specs.Report.{short, places, shown, figure, figures, heading, tool, moduleLine, toolLine, moduleLines, reportOf, refusedLine, PutRefused}
+use Rattle.report.specs.Report.{short, places, shown, figure, figures, heading, tool, moduleLine, toolLine, linesOf, tableOf, moduleLines, reportOf, refusedLine, PutRefused}
 
 pub figure-space : (n d : ℕ) → length (figure n d) ≡ length (shown (printedOf n d)) + 1
 unfolding figure
@@ -71,7 +71,7 @@ figures-length-le q =
 
 -- the lines of the first ten modules take a byte less each
 module-lines-length : (each : ℕ → Quantities) (n : ℕ) → length (moduleLines each n) + 10 ≤ 38 * n + (10 - n)
-unfolding moduleLines
+unfolding linesOf
 module-lines-length each zero = lit≤ tt
 module-lines-length each (suc n) =
     let before = module-lines-length each n in
@@ -82,12 +82,12 @@ module-lines-length each (suc n) =
     ])
 
 pub length-report : (n : ℕ) (each : ℕ → Quantities) (whole : Quantities) → n ≤ 64 → length (reportOf n each whole) ≤ 2494
-unfolding reportOf
+unfolding reportOf tableOf
 length-report n each whole h = simp length-append (omega (arith, module-lines-length each n, tool-length whole, figures-length-le whole, heading-length))
 
 -- 64 modules whose every figure has a base reach it
 pub length-reached : let q : Quantities = record { total = 1; uptime = 1; production = 1; actual = 1; effective = 1 } in length (reportOf 64 (λ m. q) q) ≡ 2494
-unfolding reportOf heading moduleLines moduleLine short toolLine tool figures figure shown places printedOf based
+unfolding reportOf tableOf linesOf heading moduleLine short toolLine tool figures figure shown places printedOf based
 length-reached = refl
 
 -- the refused line stands at the front of a buffer that is no shorter

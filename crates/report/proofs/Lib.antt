@@ -2,4 +2,5 @@ pub mod Written
 pub mod Decimals
 pub mod Lengths
 pub mod Lines
+pub mod Tables
 pub mod Cases

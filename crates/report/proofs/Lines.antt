@@ -16,7 +16,7 @@ use Rattle.e79.specs.declared.Printed.{Printed}
 use Rattle.e79.specs.declared.Printed.the-variants.{Figure, NoBase}
 use Rattle.report.specs.Text.{ascii}
 use Rattle.report.specs.Lines.{ends, Line, Lines, none, more, LastLine}
-use Rattle.report.specs.Report.{digit, short, places, shown, figure, figures, heading, tool, moduleLine, toolLine, moduleLines, reportOf}
+use Rattle.report.specs.Report.{digit, short, places, shown, figure, figures, heading, tool, moduleLine, toolLine, linesOf, tableOf, moduleLines, reportOf}
 
 -- ---- line ends of texts put together
 ends-append : (s t : List ℕ) → ends (s ++ t) ≡ ends s + ends t
@@ -83,41 +83,47 @@ pub tool-line : (q : Quantities) → Line (toolLine q)
 unfolding toolLine tool ends
 tool-line q = behind tool refl (figures-line q)
 
+-- ---- a table
+
+module _ (head : List ℕ) (line : ℕ → List ℕ) (heading : Line head) (each : (m : ℕ) → Line (line m)) where
+  -- the heading and the modules' lines, one more at a time
+  front-lines : (n : ℕ) → Lines (suc n) (head ++ linesOf line n)
+  unfolding linesOf
+  front-lines zero = rw append-nil (more none heading)
+  front-lines (suc n) = rw append-assoc at (more (front-lines n) (each n))
+
+  pub table-lines : (n : ℕ) (last : List ℕ) → Line last → Lines (n + 2) (tableOf head line n last)
+  unfolding tableOf
+  table-lines n last l = rw add-two (more (front-lines n) l)
+
+  -- the last line, behind the heading and the modules' lines, begins with a word
+  pub table-last : (n : ℕ) (word last : List ℕ) → Line last → take (length word) last ≡ word → LastLine (tableOf head line n last) (n + 1) word
+  unfolding tableOf
+  table-last n word last l e = record { front = head ++ linesOf line n; last = last; whole = refl; lines = rw add-one (front-lines n); line = l; begins = e }
+
+pub table-first : (head : List ℕ) (line : ℕ → List ℕ) (n : ℕ) (last : List ℕ) → take (length head) (tableOf head line n last) ≡ head
+unfolding tableOf
+table-first head line n last = rw append-assoc (take-append-seam head (linesOf line n ++ last))
+
 -- ---- the report
--- the heading and the modules' lines, one more at a time
-pub front-none : (each : ℕ → Quantities) → heading ++ moduleLines each 0 ≡ heading
-unfolding moduleLines
-front-none each = append-nil heading
 
-pub front-more : (each : ℕ → Quantities) (n : ℕ) → heading ++ moduleLines each (n + 1) ≡ heading ++ moduleLines each n ++ moduleLine n (each n)
-unfolding moduleLines
-front-more each n = rw (add-one, append-assoc)
+module _ (n : ℕ) (each : ℕ → Quantities) (whole : Quantities) where
+  line : ℕ → List ℕ
+  line m = moduleLine m (each m)
 
-front-lines : (each : ℕ → Quantities) (n : ℕ) → Lines (suc n) (heading ++ moduleLines each n)
-front-lines each zero = rw front-none (more none heading-line)
-front-lines each (suc n) = rw (rw add-one at (front-more each n)) (more (front-lines each n) (module-line n (each n)))
+  pub report-lines : Lines (n + 2) (reportOf n each whole)
+  unfolding reportOf line
+  report-lines = table-lines heading line heading-line (λ m. module-line m (each m)) n (toolLine whole) (tool-line whole)
 
-pub report-lines : (n : ℕ) (each : ℕ → Quantities) (whole : Quantities) → Lines (n + 2) (reportOf n each whole)
-unfolding reportOf
-report-lines n each whole = rw add-two (more (front-lines each n) (tool-line whole))
+  pub report-ends : ends (reportOf n each whole) ≡ n + 2
+  report-ends = lines-ends report-lines
 
-pub report-ends : (n : ℕ) (each : ℕ → Quantities) (whole : Quantities) → ends (reportOf n each whole) ≡ n + 2
-report-ends n each whole = lines-ends (report-lines n each whole)
+  -- the first line is the heading
+  pub report-first : take (length heading) (reportOf n each whole) ≡ heading
+  unfolding reportOf line
+  report-first = table-first heading line n (toolLine whole)
 
--- the first line is the heading
-pub report-first : (n : ℕ) (each : ℕ → Quantities) (whole : Quantities) → take (length heading) (reportOf n each whole) ≡ heading
-unfolding reportOf
-report-first n each whole = rw append-assoc (take-append-seam heading (moduleLines each n ++ toolLine whole))
-
--- the last line, behind the heading and the modules' lines, is the tool's
-pub report-last : (n : ℕ) (each : ℕ → Quantities) (whole : Quantities) → LastLine (reportOf n each whole) (n + 1) (ascii "tool")
-unfolding reportOf toolLine tool
-report-last n each whole =
-    record {
-      front = heading ++ moduleLines each n;
-      last = toolLine whole;
-      whole = refl;
-      lines = rw add-one (front-lines each n);
-      line = tool-line whole;
-      begins = refl;
-    }
+  -- the last line is the tool's
+  pub report-last : LastLine (reportOf n each whole) (n + 1) (ascii "tool")
+  unfolding reportOf line toolLine tool
+  report-last = table-last heading line heading-line (λ m. module-line m (each m)) n tool (toolLine whole) (tool-line whole) refl

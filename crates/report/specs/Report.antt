@@ -68,14 +68,23 @@ moduleLine m q = short m ++ figures q
 unfoldable pub toolLine : Quantities → List ℕ
 toolLine q = tool ++ figures q
 
--- the lines of modules 0 up to n - 1, by number, each from its quantities
-unfoldable pub moduleLines : (ℕ → Quantities) → ℕ → List ℕ
-moduleLines each zero = []
-moduleLines each (suc n) = moduleLines each n ++ moduleLine n (each n)
+-- the lines of modules 0 up to n - 1, by number
+unfoldable pub linesOf : (ℕ → List ℕ) → ℕ → List ℕ
+linesOf line zero = []
+linesOf line (suc n) = linesOf line n ++ line n
+
+-- a table: its heading, a line for each of so many modules, and its last line, which is the tool's
+unfoldable pub tableOf : List ℕ → (ℕ → List ℕ) → ℕ → List ℕ → List ℕ
+unfolding linesOf
+tableOf head line n last = head ++ linesOf line n ++ last
 
 -- the report on so many modules, from each one's quantities and the tool's
+abbrev pub moduleLines : (ℕ → Quantities) → ℕ → List ℕ
+moduleLines each n = linesOf (λ m. moduleLine m (each m)) n
+
 unfoldable pub reportOf : ℕ → (ℕ → Quantities) → Quantities → List ℕ
-reportOf n each whole = heading ++ moduleLines each n ++ toolLine whole
+unfolding tableOf
+reportOf n each whole = tableOf heading (λ m. moduleLine m (each m)) n (toolLine whole)
 
 -- what a refused log prints: `refused N list L at P`, with that number, list and place
 unfoldable pub refusedLine : Refusal → List ℕ

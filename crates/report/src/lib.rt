@@ -13,8 +13,8 @@ ghost use Rattle.e79.specs.Quantities.{Ordered, Portion};
 ghost use Rattle.report.specs.Report.{decimal, places, figure, figures, heading, moduleLine, toolLine, Put, LengthOf, FigureLength, ModuleLength, PutRefused};
 ghost use Rattle.report.specs.Report.{digit as Report·digit};
 
-// Copies a text into the buffer from `at` on.
-fn put_text(buf: &mut [u8], at: usize, text: &[u8]) -> usize
+// Copies a text into the buffer from `at` on. The caller owes the room.
+pub fn put_text(buf: &mut [u8], at: usize, text: &[u8]) -> usize
     requires { ⌜ at + length (now text) ≤ length (now buf) ⌝ }
     ensures { λ r. ⌜ Put (now (text .entry)) (now (buf .entry)) at r (now (buf .exit)) ⌝ }
 {
@@ -33,8 +33,8 @@ fn digit(n: u64) -> u8
     b'0' + (n % 10) as u8
 }
 
-// A number with no leading zero: the digits before the last, and the last.
-fn put_decimal(buf: &mut [u8], at: usize, n: u64) -> usize
+// A number with no leading zero: the digits before the last, and the last. The caller owes the room.
+pub fn put_decimal(buf: &mut [u8], at: usize, n: u64) -> usize
     requires { ⌜ at + length (decimal n) ≤ length (now buf) ⌝ }
     ensures { λ r. ⌜ Put (decimal n) (now (buf .entry)) at r (now (buf .exit)) ⌝ }
 {
@@ -154,8 +154,8 @@ pub fn tool_line_length(q: Quantities) -> usize
     figures_length(q) + 4
 }
 
-// A label and a number behind it, for which 20 bytes are enough.
-fn put_labelled(buf: &mut [u8], at: usize, label: &[u8], n: usize) -> usize
+// A label and a number behind it, for which 20 bytes are enough. The caller owes the room.
+pub fn put_labelled(buf: &mut [u8], at: usize, label: &[u8], n: usize) -> usize
     requires { ⌜ at + length (now label) + 20 ≤ length (now buf) ⌝ }
     ensures { λ r. ⌜ Put (now (label .entry) ++ decimal n) (now (buf .entry)) at r (now (buf .exit)) ⌝ }
     ensures { λ r. ⌜ r ≤ at + length (now (label .entry)) + 20 ⌝ }

@@ -1,17 +1,15 @@
--- The report's lines one by one, its length, and what the report calls answer.
+-- The report's length, and what the report calls answer.
 -- Assumes nothing.
 use mathlib.Core.Path.{_≡_, refl, sym, ap, _∙_}
 use mathlib.Core.List.{List, [], _++_}
-use Prim.Native.Nat.{ℕ, zero, suc, _+_, _-_, _≤_, _<_}
-use native.Mathlib.Nat.{add-zero, zero-add}
-use native.Mathlib.Numerals.{add-one}
+use Prim.Native.Nat.{ℕ, _+_, _≤_, _<_}
+use native.Mathlib.Nat.{zero-add}
 use native.Mathlib.Omega.{arith}
-use lib.ListN.{length, take, drop, length-append, take-append-drop}
+use lib.ListN.{length, take, drop, length-append}
 use lib.Dec.{ltb}
 use lib.Seq.{take-append-seam}
 use borrow.Author.Tests.{lt-ltb, le-ltb}
 use Rattle.records.specs.Log.{Log, decode}
-use Rattle.e79.specs.declared.Quantities.{Quantities}
 use Rattle.rules.specs.declared.Refusal.{Refusal}
 use Rattle.rules.specs.declared.Verdict.{Verdict}
 use Rattle.rules.specs.declared.Verdict.the-variants.{Accepted, Refused}
@@ -19,83 +17,19 @@ use Rattle.rules.specs.Grounds.{ground, _then_}
 use Rattle.rules.specs.Quantities.{ofModule, ofTool}
 use Rattle.rules.specs.Verdict.{verdict}
 use Rattle.rules.proofs.FirstGround.{refused-not}
-use Rattle.report.specs.Report.{heading, moduleLine, moduleLines, toolLine, reportOf, refusedLine, written, Put, PutRefused}
+use Rattle.report.specs.Report.{heading, moduleLine, moduleLines, toolLine, reportOf, refusedLine, Put, PutRefused}
 use Rattle.report.proofs.Lengths.{heading-length, length-report}
-use Rattle.report.proofs.Written.{written-length, written-front, then, read-as}
+use Rattle.report.proofs.Tables.{table-length}
+use Rattle.report.proofs.Written.{written-front}
 use Rattle.judging.specs.Working.{Consistent}
 use Rattle.reporting.specs.Reports.{printedBy, printed, Prints, reportText, verdictFor, of-log, short, Examined, writtenBy, writtenPart, Written}
 use Rattle.rules.proofs.KnownRefusals.{log-refusal}
-
-module _ (each : ℕ → Quantities) where
-  pub lines-none : moduleLines each 0 ≡ []
-  unfolding moduleLines
-  lines-none = refl
-
-  pub lines-more : (m : ℕ) → moduleLines each (m + 1) ≡ moduleLines each m ++ moduleLine m (each m)
-  unfolding moduleLines
-  lines-more m = rw (add-one m)
-
-  pub length-more : (m : ℕ) → length (moduleLines each (m + 1)) ≡ length (moduleLines each m) + length (moduleLine m (each m))
-  length-more m = ap length (lines-more m) ∙ length-append (moduleLines each m) (moduleLine m (each m))
-
-  pub length-mono : (m d : ℕ) → length (moduleLines each m) ≤ length (moduleLines each (m + d))
-  length-mono m zero = rw (add-zero m) (omega arith)
-  length-mono m (suc d) =
-      let e : m + suc d ≡ m + d + 1 = omega arith in
-      rw e (omega (arith, length-mono m d, length-more (m + d)))
 
 -- ---- the length of a report
 
 pub report-length : (l : Log) → length (reportText l) ≡ 32 + length (moduleLines (ofModule l) (l .modules)) + length (toolLine (ofTool l))
 unfolding reportText reportOf
-report-length l =
-    length-append (heading ++ moduleLines (ofModule l) (l .modules)) (toolLine (ofTool l))
-    ∙ ap (λ (n : ℕ). n + length (toolLine (ofTool l))) (length-append heading (moduleLines (ofModule l) (l .modules)) ∙ ap (λ (n : ℕ). n + length (moduleLines (ofModule l) (l .modules))) heading-length)
-
--- ---- lines put one behind the other
-
--- nothing put
-pub put-nothing : (s : List ℕ) (at : ℕ) → Put [] s at at s
-unfolding written
-put-nothing s at = record { next = omega arith; bytes = sym (rw (add-zero at) (take-append-drop at s)) }
-
-pub put-length : {xs s t : List ℕ} {at r : ℕ} → Put xs s at r t → at + length xs ≤ length s → length t ≡ length s
-put-length {xs} {s} {t} {at} p h = ap length (p .bytes) ∙ written-length s at xs h
-
--- the lines of the first m modules were put
-pub record Lined (each : ℕ → Quantities) (n m : ℕ) (s : List ℕ) (at r : ℕ) (t : List ℕ) : Type 0 where
-  pub within : m ≤ n
-  pub put : Put (moduleLines each m) s at r t
-
-module _ (each : ℕ → Quantities) (n : ℕ) (s : List ℕ) (at : ℕ) (room : at + length (moduleLines each n) ≤ length s) where
-  pub lined-none : Lined each n 0 s at at s
-  lined-none = record { within = omega arith; put = read-as (sym (lines-none each)) (put-nothing s at) }
-
-  pub lined-room : (m r : ℕ) (t : List ℕ) → m < n → Lined each n m s at r t → (length t ≡ length s) × (r + length (moduleLine m (each m)) ≤ length t)
-  lined-room m r t h l =
-      let d : m + 1 + (n - (m + 1)) ≡ n = omega arith in
-      let mono : length (moduleLines each (m + 1)) ≤ length (moduleLines each n) = rw d at (length-mono each (m + 1) (n - (m + 1))) in
-      let e : length t ≡ length s = put-length (l .put) (omega (arith, mono, length-more each m)) in
-      (e, omega (arith, e, mono, length-more each m, l .put .next))
-
-  pub lined-more : (m r q : ℕ) (t u : List ℕ) → m < n → Lined each n m s at r t → Put (moduleLine m (each m)) t r q u → Lined each n (m + 1) s at q u
-  lined-more m r q t u h l p = record { within = omega arith; put = read-as (sym (lines-more each m)) ((then) (l .put) p) }
-
--- the three parts of a report, put one behind the other
-module _ (l : Log) (s : List ℕ) (room : length (reportText l) ≤ length s) where
-  pub head-room : 32 ≤ length s
-  head-room = omega (arith, report-length l)
-
-  pub lines-room : (r : ℕ) (t : List ℕ) → Put heading s 0 r t → r + length (moduleLines (ofModule l) (l .modules)) ≤ length t
-  lines-room r t p = omega (arith, report-length l, p .next, heading-length, put-length p (omega (arith, report-length l, heading-length)))
-
-  pub tool-room : (r q : ℕ) (t u : List ℕ) → Put heading s 0 r t → Put (moduleLines (ofModule l) (l .modules)) t r q u → q + length (toolLine (ofTool l)) ≤ length u
-  tool-room r q t u p d =
-      omega (arith, report-length l, p .next, d .next, heading-length, put-length p (omega (arith, report-length l, heading-length)), put-length d (lines-room r t p))
-
-  pub all-put : (r q n : ℕ) (t u v : List ℕ) → Put heading s 0 r t → Put (moduleLines (ofModule l) (l .modules)) t r q u → Put (toolLine (ofTool l)) u q n v → Put (reportText l) s 0 n v
-  unfolding reportText reportOf
-  all-put r q n t u v a b c = (then) ((then) a b) c
+report-length l = rw heading-length at (table-length heading (λ m. moduleLine m (ofModule l m)) (l .modules) (toolLine (ofTool l)))
 
 -- ---- the verdict for a buffer
 
@@ -163,24 +97,24 @@ pub report-longest : (l : Log) → Consistent l → length (reportText l) ≤ 24
 unfolding reportText
 report-longest l ok = length-report (l .modules) (ofModule l) (ofTool l) (ok .few)
 
-pub prints-refused : (s b : List ℕ) (x : Refusal) (r : ℕ) (a : List ℕ) → verdict s ≡ Refused x → PutRefused x b r a → Prints s b r a
-unfolding printed
-prints-refused s b x r a e p =
-    let text : printed s ≡ refusedLine x = ap (λ (w : Verdict). printedBy w (reportText (decode s))) e in
-    record { size = p .size ∙ sym (ap length text); bytes = p .bytes ∙ ap (λ (t : List ℕ). t ++ drop r b) (sym text); longest = omega (arith, p .within) }
+module _ (text : Log → List ℕ) (most : ℕ) (s b : List ℕ) (r : ℕ) (a : List ℕ) where
+  pub prints-refused : (x : Refusal) → verdict s ≡ Refused x → PutRefused x b r a → 79 ≤ most → Prints text most s b r a
+  unfolding printed
+  prints-refused x e p h =
+      let same : printed text s ≡ refusedLine x = ap (λ (w : Verdict). printedBy w (text (decode s))) e in
+      record { size = p .size ∙ sym (ap length same); bytes = p .bytes ∙ ap (λ (t : List ℕ). t ++ drop r b) (sym same); longest = omega (arith, p .within) }
 
-pub prints-report : (s b : List ℕ) (r : ℕ) (a : List ℕ) → verdict s ≡ Accepted → Consistent (decode s) → Put (reportText (decode s)) b 0 r a → Prints s b r a
-unfolding printed
-prints-report s b r a e ok p =
-    let text = reportText (decode s) in
-    let same : printed s ≡ text = ap (λ (w : Verdict). printedBy w text) e in
-    let size : r ≡ length text = p .next ∙ zero-add (length text) in
-    record {
-      size = size ∙ sym (ap length same);
-      bytes = p .bytes ∙ written-front b text ∙ ap (λ (n : ℕ). text ++ drop n b) (sym size) ∙ ap (λ (x : List ℕ). x ++ drop r b) (sym same);
-      longest = omega (arith, size, report-longest (decode s) ok);
-    }
+  pub prints-text : verdict s ≡ Accepted → length (text (decode s)) ≤ most → Put (text (decode s)) b 0 r a → Prints text most s b r a
+  unfolding printed
+  prints-text e h p =
+      let same : printed text s ≡ text (decode s) = ap (λ (w : Verdict). printedBy w (text (decode s))) e in
+      let size : r ≡ length (text (decode s)) = p .next ∙ zero-add (length (text (decode s))) in
+      record {
+        size = size ∙ sym (ap length same);
+        bytes = p .bytes ∙ written-front b (text (decode s)) ∙ ap (λ (n : ℕ). text (decode s) ++ drop n b) (sym size) ∙ ap (λ (x : List ℕ). x ++ drop r b) (sym same);
+        longest = omega (arith, size);
+      }
 
--- it stands at the front of a buffer that is no shorter
-pub prints-within : (s b : List ℕ) (r : ℕ) (a : List ℕ) → Prints s b r a → r ≤ length a
-prints-within s b r a p = rw (p .bytes) (omega (arith, p .size, length-append (printed s) (drop r b)))
+  -- it stands at the front of a buffer that is no shorter
+  pub prints-within : Prints text most s b r a → r ≤ length a
+  prints-within p = rw (p .bytes) (omega (arith, p .size, length-append (printed text s) (drop r b)))

@@ -1,4 +1,4 @@
--- The report on a log, the verdict for a buffer of a length, what the report calls leave in the buffer, and what the shift program prints.
+-- The report on a log, the verdict for a buffer of a length, what the report calls leave in the buffer, and what a program prints of a log.
 -- Definitions only.
 use mathlib.Core.Path.{_≡_}
 use mathlib.Core.List.{List, [], _++_}
@@ -57,17 +57,17 @@ pub record HandedBack (s before : List ℕ) (buffer pointer : ℕ × ℕ) (part 
   pub begins : pointer ≡ buffer
   pub bytes : part ≡ writtenPart s (length before)
 
--- what the shift program prints: the report where the log is accepted, and else the line that says why it is refused
+-- what a program prints of a log: a text where the log is accepted, and else the line that says why it is refused
 abbrev pub printedBy : Verdict → List ℕ → List ℕ
 printedBy Accepted text = text
 printedBy (Refused x) text = refusedLine x
 
-unfoldable pub printed : List ℕ → List ℕ
-unfolding verdict reportText decode refusedLine
-printed s = printedBy (verdict s) (reportText (decode s))
+unfoldable pub printed : (Log → List ℕ) → List ℕ → List ℕ
+unfolding verdict decode refusedLine
+printed text s = printedBy (verdict s) (text (decode s))
 
 -- its length is answered, it stands at the front of the buffer, and the bytes behind it are as they were
-pub record Prints (s before : List ℕ) (r : ℕ) (after : List ℕ) : Type 0 where
-  pub size : r ≡ length (printed s)
-  pub bytes : after ≡ printed s ++ drop r before
-  pub longest : r ≤ 2494
+pub record Prints (text : Log → List ℕ) (most : ℕ) (s before : List ℕ) (r : ℕ) (after : List ℕ) : Type 0 where
+  pub size : r ≡ length (printed text s)
+  pub bytes : after ≡ printed text s ++ drop r before
+  pub longest : r ≤ most

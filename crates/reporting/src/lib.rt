@@ -238,7 +238,7 @@ pub fn report<'a>(log: &[u8], buf: &'a mut [u8]) -> &'a mut [u8]
 // Writes what the shift program prints to the front of the buffer and answers its length: the report, or the line that says why the log is refused.
 // The longest report takes 2,494 bytes.
 pub fn print_report(log: &[u8], buf: &mut [u8; 2494]) -> usize
-    ensures { λ r. ⌜ Prints (now (log .entry)) (now (buf .entry)) r (now (buf .exit)) ⌝ }
+    ensures { λ r. ⌜ Prints reportText 2494 (now (log .entry)) (now (buf .entry)) r (now (buf .exit)) ⌝ }
 {
     let j = judging::judge_log(log);
     let verdict = j.verdict;

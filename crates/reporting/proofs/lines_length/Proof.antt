@@ -6,8 +6,8 @@ use native.Mathlib.Omega.{arith}
 use lib.ListN.{length}
 use Rattle.records.specs.Log.{decode}
 use Rattle.rules.specs.Quantities.{ofModule}
-use Rattle.report.specs.Report.{moduleLines}
-use Rattle.reporting.proofs.Reporting.{lines-none, length-more}
+use Rattle.report.specs.Report.{moduleLine, moduleLines}
+use Rattle.report.proofs.Tables.{lines-none, length-more}
 use Rattle.reporting.proofs.lines_length.Statement.{statement}
 use Rattle.reporting.proofs.lines_length.Tie as tie
 
@@ -18,7 +18,7 @@ abbrev μ-loop : tie.MeasureT-loop
 μ-loop log period modules totals uptime actual effective size₀ m₀ size m = modules - m
 
 loop-holds : tie.Need-loop-holds Inv-loop μ-loop
-loop-holds c = (omega arith, sym (ap length (lines-none (ofModule (decode (c .before .args .log .now))))), omega arith)
+loop-holds c = (omega arith, sym (ap length (lines-none (λ m. moduleLine m (ofModule (decode (c .before .args .log .now)) m)))), omega arith)
 
 line-length-requires : tie.Need-line-length-requires Inv-loop μ-loop
 line-length-requires c κs =
@@ -30,7 +30,7 @@ loop-again c =
     let a = c .before .before .before .before .args in
     let l = c .before .before .loop in (
       omega (arith, c .before .loop-test .taken),
-      omega (arith, l .inv .1, c .line-length .ensures .0, length-more (ofModule (decode (a .log .now))) (l .m)),
+      omega (arith, l .inv .1, c .line-length .ensures .0, length-more (λ m. moduleLine m (ofModule (decode (a .log .now)) m)) (l .m)),
       omega (arith, l .inv .2, c .line-length .ensures .1),
     )
 

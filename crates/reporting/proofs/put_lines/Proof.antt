@@ -5,34 +5,34 @@ use Prim.Native.Nat.{_-_}
 use native.Mathlib.Omega.{arith}
 use Rattle.records.specs.Log.{decode}
 use Rattle.rules.specs.Quantities.{ofModule}
-use Rattle.report.specs.Report.{moduleLines, Put}
+use Rattle.report.specs.Report.{moduleLine, moduleLines, Put}
 use Rattle.report.proofs.Written.{read-as}
-use Rattle.reporting.proofs.Reporting.{Lined, lined-none, lined-room, lined-more, put-length}
+use Rattle.report.proofs.Tables.{Lined, lined-none, lined-room, lined-more, put-length}
 use Rattle.reporting.proofs.put_lines.Statement.{statement}
 use Rattle.reporting.proofs.put_lines.Tie as tie
 
 abbrev Inv-loop : tie.InvT-loop
-Inv-loop buf₀ at log period modules totals uptime actual effective next₀ m₀ buf next m = Lined (ofModule (decode log)) modules m buf₀ at next buf
+Inv-loop buf₀ at log period modules totals uptime actual effective next₀ m₀ buf next m = Lined (λ m. moduleLine m (ofModule (decode log) m)) modules m buf₀ at next buf
 
 abbrev μ-loop : tie.MeasureT-loop
 μ-loop buf₀ at log period modules totals uptime actual effective next₀ m₀ buf next m = modules - m
 
 loop-holds : tie.Need-loop-holds Inv-loop μ-loop
-loop-holds c = let s = c .before .before in lined-none (ofModule (decode (s .args .log .now))) (s .args .modules) (s .args .buf .now) (s .args .at) (s .pre .1 .1 .1)
+loop-holds c = let s = c .before .before in lined-none (λ m. moduleLine m (ofModule (decode (s .args .log .now)) m)) (s .args .modules) (s .args .buf .now) (s .args .at) (s .pre .1 .1 .1)
 
 put-line-requires : tie.Need-put-line-requires Inv-loop μ-loop
 put-line-requires c κs =
     let s = c .before .before .before .before .before in
     let l = c .before .before .loop in
     let low = c .before .loop-test .taken in
-    ((omega (arith, low, s .pre .0 .1), omega (arith, low, s .pre .0 .1, s .pre .1 .1 .0 .few), s .pre .0 .0), (s .pre .1 .0, (s .pre .1 .1 .0, lined-room (ofModule (decode (s .args .log .now))) (s .args .modules) (s .args .buf .now) (s .args .at) (s .pre .1 .1 .1) (l .m) (l .next) (l .buf) low (l .inv) .1)))
+    ((omega (arith, low, s .pre .0 .1), omega (arith, low, s .pre .0 .1, s .pre .1 .1 .0 .few), s .pre .0 .0), (s .pre .1 .0, (s .pre .1 .1 .0, lined-room (λ m. moduleLine m (ofModule (decode (s .args .log .now)) m)) (s .args .modules) (s .args .buf .now) (s .args .at) (s .pre .1 .1 .1) (l .m) (l .next) (l .buf) low (l .inv) .1)))
 
 loop-again : tie.Need-loop-again Inv-loop μ-loop
 loop-again c =
     let s = c .before .before .before .before .before .before .before .before in
     let l = c .before .before .before .before .before .loop in
     let p = c .before .before .put-line in
-    lined-more (ofModule (decode (s .args .log .now))) (s .args .modules) (s .args .buf .now) (s .args .at) (s .pre .1 .1 .1) (l .m) (l .next) (p .result) (l .buf) (p .last .0) (c .before .before .before .before .loop-test .taken) (l .inv) (p .ensures)
+    lined-more (λ m. moduleLine m (ofModule (decode (s .args .log .now)) m)) (s .args .modules) (s .args .buf .now) (s .args .at) (s .pre .1 .1 .1) (l .m) (l .next) (p .result) (l .buf) (p .last .0) (c .before .before .before .before .loop-test .taken) (l .inv) (p .ensures)
 
 -- at the end all lines are put
 whole : (c : tie.After-loop Inv-loop μ-loop) → let s = c .before .before .before .before in let l = c .before .loop in Put (moduleLines (ofModule (decode (s .args .log .now))) (s .args .modules)) (s .args .buf .now) (s .args .at) (l .next) (l .buf)

@@ -2,24 +2,39 @@
 -- Assumes nothing.
 use borrow.Author.Needs.{needs}
 use mathlib.Core.Path.{ap}
-use Rattle.records.specs.Log.{decode}
-use Rattle.rules.specs.Quantities.{ofModule}
-use Rattle.report.specs.Report.{moduleLines, toolLine, Put}
+use mathlib.Core.List.{List}
+use Prim.Native.Nat.{ℕ}
+use Rattle.records.specs.Log.{Log, decode}
+use Rattle.rules.specs.Quantities.{ofModule, ofTool}
+use Rattle.report.specs.Report.{heading, moduleLine, moduleLines, toolLine, reportOf, Put}
+use Rattle.report.proofs.Lengths.{heading-length}
+use Rattle.report.proofs.Tables.{head-room, lines-room, last-room, all-put}
 use Rattle.report.proofs.Written.{read-as}
 use Rattle.judging.proofs.Accepted.{tool-ordered}
-use Rattle.reporting.proofs.Reporting.{head-room, lines-room, tool-room, all-put}
+use Rattle.reporting.specs.Reports.{reportText}
 use Rattle.reporting.proofs.put_report.Statement.{statement}
 use Rattle.reporting.proofs.put_report.Tie as tie
 
+abbrev line : Log → ℕ → List ℕ
+line l m = moduleLine m (ofModule l m)
+
+abbrev last : Log → List ℕ
+last l = toolLine (ofTool l)
+
 put-heading-requires : tie.Need-put-heading-requires
-put-heading-requires c κs = let s = c .before .before .before in head-room (decode (s .args .log .now)) (s .args .buf .now) (s .pre .1 .1 .1)
+unfolding reportText reportOf
+put-heading-requires c κs =
+    let s = c .before .before .before in
+    let l = decode (s .args .log .now) in
+    rw heading-length at (head-room heading (line l) (l .modules) (last l) (s .args .buf .now) (s .pre .1 .1 .1))
 
 put-lines-requires : tie.Need-put-lines-requires
+unfolding reportText reportOf
 put-lines-requires c κs =
     let s = c .before .before .before .before .before .before .before in
     let p = c .before .before .before .put-heading in
     let l = decode (s .args .log .now) in
-    (s .pre .0, (s .pre .1 .0, (s .pre .1 .1 .0, rw (s .pre .0 .1) (lines-room l (s .args .buf .now) (s .pre .1 .1 .1) (p .result) (p .last .0) (p .ensures)))))
+    (s .pre .0, (s .pre .1 .0, (s .pre .1 .1 .0, rw (s .pre .0 .1) (lines-room heading (line l) (l .modules) (last l) (s .args .buf .now) (s .pre .1 .1 .1) (p .result) (p .last .0) (p .ensures)))))
 
 -- the modules' lines, as many as the log has
 lined : (c : tie.After-put-lines)
@@ -29,21 +44,24 @@ lined c =
     read-as (ap (moduleLines (ofModule (decode (s .args .log .now)))) (s .pre .0 .1)) (c .put-lines .ensures)
 
 put-tool-line-requires : tie.Need-put-tool-line-requires
+unfolding reportText reportOf
 put-tool-line-requires c κs =
     let d = c .before .before .before .before in
     let s = d .before .before .before .before .before .before .before .before in
     let p = d .before .before .before .before .put-heading in
     let l = decode (s .args .log .now) in
     let e = c .tool-sums .ensures in
-    (rw e (tool-ordered l (s .pre .1 .1 .0)), rw e (tool-room l (s .args .buf .now) (s .pre .1 .1 .1) (p .result) (d .put-lines .result) (p .last .0) (d .put-lines .last .0) (p .ensures) (lined d)))
+    (rw e (tool-ordered l (s .pre .1 .1 .0)), rw e (last-room heading (line l) (l .modules) (last l) (s .args .buf .now) (s .pre .1 .1 .1) (p .result) (d .put-lines .result) (p .last .0) (d .put-lines .last .0) (p .ensures) (lined d)))
 
 returns : tie.Need-returns
+unfolding reportText reportOf
 returns c =
     let d = c .before .before .before .before .before .before .before in
     let s = d .before .before .before .before .before .before .before .before in
     let p = d .before .before .before .before .put-heading in
     let q = c .before .before .put-tool-line in
-    all-put (decode (s .args .log .now)) (s .args .buf .now) (s .pre .1 .1 .1) (p .result) (d .put-lines .result) (q .result) (p .last .0) (d .put-lines .last .0) (q .last .0) (p .ensures) (lined d)
+    let l = decode (s .args .log .now) in
+    all-put heading (line l) (l .modules) (last l) (s .args .buf .now) (s .pre .1 .1 .1) (p .result) (d .put-lines .result) (q .result) (p .last .0) (d .put-lines .last .0) (q .last .0) (p .ensures) (lined d)
     (read-as (ap toolLine (c .before .before .before .tool-sums .ensures)) (q .ensures))
 
 pub put-report-spec : {M : Type 1} → statement M
