@@ -5,13 +5,11 @@ use native.Mathlib.Decide.{decLt}
 use native.Mathlib.Omega.{arith}
 use borrow.Author.Tests.{lt-ltb, le-ltb}
 use lib.Dec.{lit≤}
-use mathlib.Core.List.{List}
-use lib.ListN.{length, drop, length-append}
-use Rattle.rules.specs.declared.Refusal.{Refusal}
+use lib.ListN.{length, length-append}
 use Rattle.e79.specs.declared.Quantities.{Quantities}
 use Rattle.e79.specs.Quantities.{based}
 use Rattle.e79.specs.Printed.{printedOf}
-use Rattle.report.specs.Report.{short, places, shown, figure, figures, heading, tool, moduleLine, toolLine, linesOf, tableOf, moduleLines, reportOf, refusedLine, PutRefused}
+use Rattle.report.specs.Report.{short, places, shown, figure, figures, heading, tool, moduleLine, toolLine, linesOf, tableOf, moduleLines, reportOf}
 
 pub figure-space : (n d : ℕ) → length (figure n d) ≡ length (shown (printedOf n d)) + 1
 unfolding figure
@@ -89,7 +87,3 @@ length-report n each whole h = simp length-append (omega (arith, module-lines-le
 pub length-reached : let q : Quantities = record { total = 1; uptime = 1; production = 1; actual = 1; effective = 1 } in length (reportOf 64 (λ m. q) q) ≡ 2494
 unfolding reportOf tableOf linesOf heading moduleLine short toolLine tool figures figure shown places printedOf based
 length-reached = refl
-
--- the refused line stands at the front of a buffer that is no shorter
-pub refused-within : (x : Refusal) (before after : List ℕ) (r : ℕ) → PutRefused x before r after → r ≤ length after
-refused-within x before after r p = rw (p .bytes) (omega (arith, p .size, length-append (refusedLine x) (drop r before)))

@@ -6,7 +6,7 @@ use native.Mathlib.Nat.{zero-add, suc-add, le-refl}
 use native.Mathlib.Omega.{arith}
 use lib.ListN.{length, take, drop, length-append, drop-of-length-le}
 use lib.Seq.{paste, take-length, length-paste, drop-paste, drop-drop, take-at, drop-at, take-append-seam, drop-append-add, drop-nil, take-all, length-take-le}
-use Rattle.report.specs.Report.{written, Put}
+use Rattle.report.specs.Report.{written, Put, AtFront}
 
 -- a whole text pasted in
 pub written-paste : (s : List ℕ) (at : ℕ) (xs : List ℕ) → written s at xs ≡ paste s at xs (length xs)
@@ -56,3 +56,17 @@ then {xs} {ys} {s} {t} {u} {at} {n} {m} p q =
 -- a text put is put under each of its descriptions
 pub read-as : {xs ys s t : List ℕ} {at r : ℕ} → xs ≡ ys → Put xs s at r t → Put ys s at r t
 read-as e p = rw e at p
+
+-- a text put at the front
+pub at-front : {text before after : List ℕ} {r : ℕ} (most : ℕ) → length text ≤ most → Put text before 0 r after → AtFront text most before r after
+at-front {text} {before} most h p =
+    let size = p .next ∙ zero-add (length text) in
+    record { size = size; bytes = rw size (p .bytes ∙ written-front before text); longest = omega (arith, size) }
+
+-- the buffer is no shorter
+pub front-within : {text : List ℕ} {most : ℕ} {before : List ℕ} {r : ℕ} {after : List ℕ} → AtFront text most before r after → r ≤ length after
+front-within {text} {most} {before} {r} p = rw (p .bytes) (omega (arith, p .size, length-append text (drop r before)))
+
+-- and begins with the text
+pub front-text : {text : List ℕ} {most : ℕ} {before : List ℕ} {r : ℕ} {after : List ℕ} → AtFront text most before r after → take r after ≡ text
+front-text {text} {most} {before} p = rw (p .bytes, p .size) (take-append-seam text (drop (length text) before))

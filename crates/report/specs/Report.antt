@@ -116,8 +116,8 @@ pub record ModuleLength (m : ℕ) (q : Quantities) (r : ℕ) : Type 0 where
   pub within : r ≤ 38
   pub one-digit : m < 10 → r ≤ 37
 
--- a refused log's line at the front of a buffer, with its length
-pub record PutRefused (x : Refusal) (before : List ℕ) (r : ℕ) (after : List ℕ) : Type 0 where
-  pub size : r ≡ length (refusedLine x)
-  pub within : r ≤ 79
-  pub bytes : after ≡ refusedLine x ++ drop r before
+-- a text of at most so many bytes at the front of a buffer: its length is answered, and the bytes behind it are as they were
+pub record AtFront (text : List ℕ) (most : ℕ) (before : List ℕ) (r : ℕ) (after : List ℕ) : Type 0 where
+  pub size : r ≡ length text
+  pub bytes : after ≡ text ++ drop r before
+  pub longest : r ≤ most

@@ -10,7 +10,7 @@ ghost use mathlib.Core.List.{_++_};
 ghost use Prim.Native.Nat.{_+_, _≤_, _<_};
 ghost use lib.ListN.{length};
 ghost use Rattle.e79.specs.Quantities.{Ordered, Portion};
-ghost use Rattle.report.specs.Report.{decimal, places, figure, figures, heading, moduleLine, toolLine, Put, LengthOf, FigureLength, ModuleLength, PutRefused};
+ghost use Rattle.report.specs.Report.{decimal, places, figure, figures, heading, moduleLine, toolLine, Put, LengthOf, FigureLength, ModuleLength, refusedLine, AtFront};
 ghost use Rattle.report.specs.Report.{digit as Report·digit};
 
 // Copies a text into the buffer from `at` on. The caller owes the room.
@@ -167,7 +167,7 @@ pub fn put_labelled(buf: &mut [u8], at: usize, label: &[u8], n: usize) -> usize
 // The line for a refused log, at the front of the buffer, and its length. The caller owes 80 bytes, in which every refusal fits.
 pub fn put_refused_line(buf: &mut [u8], x: Refusal) -> usize
     requires { ⌜ 80 ≤ length (now buf) ⌝ }
-    ensures { λ r. ⌜ PutRefused x (now (buf .entry)) r (now (buf .exit)) ⌝ }
+    ensures { λ r. ⌜ AtFront (refusedLine x) 79 (now (buf .entry)) r (now (buf .exit)) ⌝ }
 {
     let number = put_labelled(buf, 0, b"refused ", x.number);
     let list = put_labelled(buf, number, b" list ", x.list);

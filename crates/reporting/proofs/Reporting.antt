@@ -17,10 +17,10 @@ use Rattle.rules.specs.Grounds.{ground, _then_}
 use Rattle.rules.specs.Quantities.{ofModule, ofTool}
 use Rattle.rules.specs.Verdict.{verdict}
 use Rattle.rules.proofs.FirstGround.{refused-not}
-use Rattle.report.specs.Report.{heading, moduleLine, moduleLines, toolLine, reportOf, refusedLine, Put, PutRefused}
+use Rattle.report.specs.Report.{heading, moduleLine, moduleLines, toolLine, reportOf, refusedLine, Put, AtFront}
 use Rattle.report.proofs.Lengths.{heading-length, length-report}
 use Rattle.report.proofs.Tables.{table-length}
-use Rattle.report.proofs.Written.{written-front}
+use Rattle.report.proofs.Written.{written-front, at-front}
 use Rattle.judging.specs.Working.{Consistent}
 use Rattle.reporting.specs.Reports.{printedBy, printed, Prints, reportText, verdictFor, of-log, short, Examined, writtenBy, writtenPart, Written}
 use Rattle.rules.proofs.KnownRefusals.{log-refusal}
@@ -98,23 +98,14 @@ unfolding reportText
 report-longest l ok = length-report (l .modules) (ofModule l) (ofTool l) (ok .few)
 
 module _ (text : Log → List ℕ) (most : ℕ) (s b : List ℕ) (r : ℕ) (a : List ℕ) where
-  pub prints-refused : (x : Refusal) → verdict s ≡ Refused x → PutRefused x b r a → 79 ≤ most → Prints text most s b r a
+  pub prints-refused : (x : Refusal) → verdict s ≡ Refused x → AtFront (refusedLine x) 79 b r a → 79 ≤ most → Prints text most s b r a
   unfolding printed
   prints-refused x e p h =
       let same : printed text s ≡ refusedLine x = ap (λ (w : Verdict). printedBy w (text (decode s))) e in
-      record { size = p .size ∙ sym (ap length same); bytes = p .bytes ∙ ap (λ (t : List ℕ). t ++ drop r b) (sym same); longest = omega (arith, p .within) }
+      rw same (record { size = p .size; bytes = p .bytes; longest = omega (arith, p .longest) })
 
   pub prints-text : verdict s ≡ Accepted → length (text (decode s)) ≤ most → Put (text (decode s)) b 0 r a → Prints text most s b r a
   unfolding printed
   prints-text e h p =
       let same : printed text s ≡ text (decode s) = ap (λ (w : Verdict). printedBy w (text (decode s))) e in
-      let size : r ≡ length (text (decode s)) = p .next ∙ zero-add (length (text (decode s))) in
-      record {
-        size = size ∙ sym (ap length same);
-        bytes = p .bytes ∙ written-front b (text (decode s)) ∙ ap (λ (n : ℕ). text (decode s) ++ drop n b) (sym size) ∙ ap (λ (x : List ℕ). x ++ drop r b) (sym same);
-        longest = omega (arith, size);
-      }
-
-  -- it stands at the front of a buffer that is no shorter
-  pub prints-within : Prints text most s b r a → r ≤ length a
-  prints-within p = rw (p .bytes) (omega (arith, p .size, length-append (printed text s) (drop r b)))
+      rw same (at-front most h p)

@@ -15,7 +15,7 @@ use Rattle.rules.specs.Names.{noList}
 use Rattle.rules.specs.Quantities.{ofModule, ofTool}
 use Rattle.rules.specs.Verdict.{verdict}
 use Rattle.rules.specs.Refusals.{OfLog}
-use Rattle.report.specs.Report.{reportOf, refusedLine}
+use Rattle.report.specs.Report.{reportOf, refusedLine, AtFront}
 
 -- the report: the heading, a line for each module, and the tool's line
 unfoldable pub reportText : Log → List ℕ
@@ -66,8 +66,6 @@ unfoldable pub printed : (Log → List ℕ) → List ℕ → List ℕ
 unfolding verdict decode refusedLine
 printed text s = printedBy (verdict s) (text (decode s))
 
--- its length is answered, it stands at the front of the buffer, and the bytes behind it are as they were
-pub record Prints (text : Log → List ℕ) (most : ℕ) (s before : List ℕ) (r : ℕ) (after : List ℕ) : Type 0 where
-  pub size : r ≡ length (printed text s)
-  pub bytes : after ≡ printed text s ++ drop r before
-  pub longest : r ≤ most
+-- it stands at the front of the buffer, and has at most so many bytes
+abbrev pub Prints : (Log → List ℕ) → ℕ → List ℕ → List ℕ → ℕ → List ℕ → Type 0
+Prints text most s before r after = AtFront (printed text s) most before r after

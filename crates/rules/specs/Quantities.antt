@@ -1,5 +1,6 @@
 -- The six state times and the five quantities of E79, of a module and of the tool, which sums those of its modules.
 -- Definitions only.
+use mathlib.Core.List.{List, [], _∷_}
 use Prim.Native.Nat.{ℕ, zero, suc, _+_}
 use Rattle.records.specs.Log.{Log}
 use Rattle.e79.specs.declared.Quantities.{Quantities}
@@ -77,3 +78,13 @@ ofTool l =
       actual = sumBelow (actualTime l) (l .modules);
       effective = sumBelow (effectiveTime l) (l .modules);
     }
+
+-- ---- as lists, in the sequence in which they are handed out and printed
+
+-- the six state times, by the states of document 01
+abbrev pub timesOf : StateTimes → List ℕ
+timesOf t = t .productive ∷ t .standby ∷ t .engineering ∷ t .scheduled ∷ t .unscheduled ∷ t .nonscheduled ∷ []
+
+-- total, uptime, production, actual, effective
+abbrev pub quantitiesOf : Quantities → List ℕ
+quantitiesOf q = q .total ∷ q .uptime ∷ q .production ∷ q .actual ∷ q .effective ∷ []

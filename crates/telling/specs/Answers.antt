@@ -11,7 +11,8 @@ use Rattle.answering.specs.declared.QuantitiesAnswer.{QuantitiesAnswer}
 use Rattle.answering.specs.declared.QuantitiesAnswer.the-variants as quantities
 use Rattle.answering.specs.declared.FiguresAnswer.{FiguresAnswer}
 use Rattle.answering.specs.declared.FiguresAnswer.the-variants as figures
-use Rattle.telling.specs.Arrays.{timesOf, quantitiesOf, ratiosOf, basesOf}
+use Rattle.rules.specs.Quantities.{timesOf, quantitiesOf}
+use Rattle.telling.specs.Arrays.{ratiosOf, basesOf}
 
 -- ---- state times
 

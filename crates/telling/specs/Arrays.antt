@@ -3,11 +3,9 @@
 use mathlib.Core.List.{List, [], _∷_}
 use Prim.Native.Nat.{ℕ}
 use lib.Ieee.{Float, nan}
-use Rattle.e79.specs.declared.Quantities.{Quantities}
 use Rattle.e79.specs.declared.Efficiency.{Efficiency}
 use Rattle.e79.specs.declared.Efficiency.the-variants.{Ratio, NoBase}
 use Rattle.e79.specs.declared.Figures.{Figures}
-use Rattle.rules.specs.declared.StateTimes.{StateTimes}
 use Rattle.rules.specs.declared.Verdict.{Verdict}
 use Rattle.rules.specs.declared.Verdict.the-variants.{Accepted, Refused}
 
@@ -15,14 +13,6 @@ use Rattle.rules.specs.declared.Verdict.the-variants.{Accepted, Refused}
 abbrev pub refusalOf : Verdict → List ℕ
 refusalOf Accepted = 0 ∷ 0 ∷ 0 ∷ []
 refusalOf (Refused x) = x .number ∷ x .list ∷ x .place ∷ []
-
--- the six state times, by the states of document 01
-abbrev pub timesOf : StateTimes → List ℕ
-timesOf t = t .productive ∷ t .standby ∷ t .engineering ∷ t .scheduled ∷ t .unscheduled ∷ t .nonscheduled ∷ []
-
--- total, uptime, production, actual, effective
-abbrev pub quantitiesOf : Quantities → List ℕ
-quantitiesOf q = q .total ∷ q .uptime ∷ q .production ∷ q .actual ∷ q .effective ∷ []
 
 -- an efficiency's double, and NaN where it has no base
 abbrev pub ratioOf : Efficiency → Float

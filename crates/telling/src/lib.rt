@@ -1,7 +1,8 @@
 // An answer told to C: a flag, the refusal's three numbers, and the answer's numbers in arrays of a fixed size, which a refusal leaves as they were.
 ghost use mathlib.Core.Path.{_≡_};
 ghost use lib.Ieee.{nan};
-ghost use Rattle.telling.specs.Arrays.{ratioOf, baseOf, timesOf, quantitiesOf, ratiosOf, basesOf};
+ghost use Rattle.rules.specs.Quantities.{timesOf, quantitiesOf};
+ghost use Rattle.telling.specs.Arrays.{ratioOf, baseOf, ratiosOf, basesOf};
 ghost use Rattle.telling.specs.Told.{Told};
 ghost use Rattle.telling.specs.Answers.{timesVerdict, timesAfter, quantitiesVerdict, quantitiesAfter, figuresVerdict, ratiosAfter, basesAfter};
 use answering::FiguresAnswer;

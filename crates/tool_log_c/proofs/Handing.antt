@@ -19,7 +19,8 @@ use Rattle.answering.specs.declared.FiguresAnswer.{FiguresAnswer}
 use Rattle.answering.specs.declared.FiguresAnswer.the-variants as figures
 use Rattle.answering.specs.Calls.{answerOf, Given}
 use Rattle.reporting.specs.Reports as reports
-use Rattle.telling.specs.Arrays.{timesOf, quantitiesOf, ratiosOf, basesOf}
+use Rattle.rules.specs.Quantities.{timesOf, quantitiesOf}
+use Rattle.telling.specs.Arrays.{ratiosOf, basesOf}
 use Rattle.telling.specs.Told.{answerOr, Told}
 use Rattle.telling.specs.Answers.{timesVerdict, timesAfter, quantitiesVerdict, quantitiesAfter, figuresVerdict, ratiosAfter, basesAfter}
 use Rattle.tool_log_c.specs.Calls.{Promised, TellsVerdict, TellsNumbers, TellsDoubles}

@@ -12,12 +12,12 @@ use Rattle.e79.specs.Accuracy.{Accurate}
 use Rattle.rules.specs.declared.Refusal.{Refusal}
 use Rattle.rules.specs.declared.Verdict.{Verdict}
 use Rattle.rules.specs.declared.Verdict.the-variants.{Accepted, Refused}
-use Rattle.rules.specs.Quantities.{allTimes, moduleTimes, toolTimes, ofModule, ofTool}
+use Rattle.rules.specs.Quantities.{allTimes, moduleTimes, toolTimes, ofModule, ofTool, timesOf, quantitiesOf}
 use Rattle.rules.specs.Verdict.{verdict, verdictOn}
 use Rattle.answering.specs.Calls.{OnModule}
 use Rattle.rules.specs.Refusals.{OfLog}
 use Rattle.reporting.specs.Reports.{verdictFor, ForRoom}
-use Rattle.telling.specs.Arrays.{timesOf, quantitiesOf, ratiosOf, basesOf}
+use Rattle.telling.specs.Arrays.{ratiosOf, basesOf}
 use Rattle.telling.specs.Told.{answerOr, Told}
 
 -- what is promised of the value where the verdict accepts, and what a refusal may be

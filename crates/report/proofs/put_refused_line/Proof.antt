@@ -1,12 +1,9 @@
 -- `report::put_refused_line` meets its contract: the three labels with their numbers and the line's end are written one behind the other from the front on. Assumes nothing.
 use borrow.Author.Needs.{needs}
-use mathlib.Core.Path.{_∙_}
-use native.Mathlib.Nat.{zero-add}
 use native.Mathlib.Omega.{arith}
-use lib.ListN.{length}
 use denote.Ref.{now}
 use Rattle.report.specs.Report.{refusedLine, Put}
-use Rattle.report.proofs.Written.{then, written-front}
+use Rattle.report.proofs.Written.{then, at-front}
 use Rattle.report.proofs.put_refused_line.Statement.{statement}
 use Rattle.report.proofs.put_refused_line.Tie as tie
 
@@ -47,8 +44,7 @@ returns c =
     let start = number .before .before .before .before .args in
     let line : Put (refusedLine (start .x)) (now (start .buf)) 0 (text .put-text .result) (text .put-text .last .0) =
     then (then (then (number .put-labelled .ensures .0) (list .put-labelled2 .ensures .0)) (place .put-labelled3 .ensures .0)) (text .put-text .ensures) in
-    let size = line .next ∙ zero-add (length (refusedLine (start .x))) in
-    record { size = size; within = omega (arith, number .put-labelled .ensures .1, list .put-labelled2 .ensures .1, place .put-labelled3 .ensures .1, text .put-text .ensures .next); bytes = rw size (line .bytes ∙ written-front (now (start .buf)) (refusedLine (start .x))) }
+    at-front 79 (omega (arith, line .next, number .put-labelled .ensures .1, list .put-labelled2 .ensures .1, place .put-labelled3 .ensures .1, text .put-text .ensures .next)) line
 
 pub put-refused-line-spec : {M : Type 1} → statement M
 put-refused-line-spec =

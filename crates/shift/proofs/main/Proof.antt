@@ -2,15 +2,15 @@
 use mathlib.Core.Path.{sym}
 use lib.Seq.{length-take-le}
 use borrow.Author.Needs.{needs}
-use Rattle.reporting.proofs.Reporting.{prints-within}
+use Rattle.report.proofs.Written.{front-within}
 use Rattle.shift.proofs.main.Statement.{statement}
 use Rattle.shift.proofs.main.Tie as tie
 
 array-share-prefix-space : tie.Need-array-share-prefix-space
-array-share-prefix-space c = prints-within _ _ _ _ _ _ (c .print-report .ensures)
+array-share-prefix-space c = front-within (c .print-report .ensures)
 
 slice-aggregate-write-all : tie.Need-slice-aggregate-write-all
-slice-aggregate-write-all c = sym (length-take-le _ _ (prints-within _ _ _ _ _ _ (c .before .print-report .ensures)))
+slice-aggregate-write-all c = sym (length-take-le _ _ (front-within (c .before .print-report .ensures)))
 
 pub main-spec : {M : Type 1} → statement M
 main-spec =

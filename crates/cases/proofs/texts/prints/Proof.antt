@@ -6,7 +6,7 @@ use mathlib.Core.List.{List}
 use Prim.Native.Nat.{ℕ}
 use native.Mathlib.Omega.{arith}
 use lib.ListN.{length, take, drop, length-append, length-drop}
-use lib.Seq.{take-append-seam}
+use Rattle.report.proofs.Written.{front-text}
 use Rattle.reporting.specs.Reports.{reportText, printed, Prints}
 use Rattle.cases.proofs.texts.prints.Statement.{statement}
 use Rattle.cases.proofs.texts.prints.Tie as tie
@@ -17,7 +17,7 @@ module _ (s b : List ℕ) (r : ℕ) (a : List ℕ) (p : Prints reportText 2494 s
 
   front : (text : List ℕ) → r ≡ length text → take (length text) a ≡ text → text ≡ printed reportText s
   front text n h =
-      sym h ∙ ap (λ (k : ℕ). take k a) (sym n) ∙ rw (p .bytes, p .size) (take-append-seam (printed reportText s) (drop (length (printed reportText s)) b))
+      sym h ∙ ap (λ (k : ℕ). take k a) (sym n) ∙ front-text p
 
 slice-aggregate-left : tie.Need-slice-aggregate-left
 slice-aggregate-left c = all _ _ _ _ (c .before .before .print-report .ensures) (c .before .before .before .before .before .fill .ensures .0)
