@@ -28,7 +28,7 @@ module _ (line : ℕ → List ℕ) where
       rw e (omega (arith, length-mono m d, length-more (m + d)))
 
 -- nothing put
-put-nothing : (s : List ℕ) (at : ℕ) → Put [] s at at s
+pub put-nothing : (s : List ℕ) (at : ℕ) → Put [] s at at s
 unfolding written
 put-nothing s at = record { next = omega arith; bytes = sym (rw (add-zero at) (take-append-drop at s)) }
 

@@ -1,0 +1,4 @@
+pub mod TextLines
+pub mod OnCard
+pub mod Whereabouts
+pub mod Refusals

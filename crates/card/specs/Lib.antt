@@ -1,0 +1,2 @@
+pub mod Card
+pub mod Fields
