@@ -21,7 +21,7 @@ use Rattle.rules.specs.Quantities.{timeIn, uptime, actualTime, effectiveTime, s
 use Rattle.rules.specs.Verdict.{headerGrounds, fastGround, anyOver, anyTimeOver, sumGrounds, verdict}
 use Rattle.rules.proofs.FirstGround.{then-accepted}
 use Rattle.states.proofs.Stretches.{stretches, accepted-by-stretches}
-use Rattle.report.specs.Report.{short, places, shown, figure, figures, heading, tool, moduleLine, toolLine, linesOf, tableOf, reportOf}
+use Rattle.report.specs.Report.{short, places, shown, figure, figures, heading, tool, moduleLine, toolLine, joined, tableOf, reportOf}
 use Rattle.judging.specs.Working.{Grounded}
 use Rattle.reporting.specs.Reports.{reportText}
 use Rattle.judging.proofs.Accepted.{consistent, none-over}
@@ -67,7 +67,7 @@ reportIn Accepted l = reportOf (l .modules) (quantitiesBy l) (summed (quantities
 reportIn (Refused x) l = reportText l
 
 unfoldable pub reportBy : Log → List ℕ
-unfolding stateGrounds isState actualTime effectiveTime sumBelow reportOf tableOf linesOf heading moduleLine short toolLine tool figures figure shown places printedOf roundedOf based
+unfolding stateGrounds isState actualTime effectiveTime sumBelow reportOf tableOf joined heading moduleLine short toolLine tool figures figure shown places printedOf roundedOf based
 reportBy l = reportIn (statesOf l) l
 
 pub report-by-stretches : (l : Log) → reportText l ≡ reportBy l

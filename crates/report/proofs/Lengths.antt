@@ -9,7 +9,7 @@ use lib.ListN.{length, length-append}
 use Rattle.e79.specs.declared.Quantities.{Quantities}
 use Rattle.e79.specs.Quantities.{based}
 use Rattle.e79.specs.Printed.{printedOf}
-use Rattle.report.specs.Report.{short, places, shown, figure, figures, heading, tool, moduleLine, toolLine, linesOf, tableOf, moduleLines, reportOf}
+use Rattle.report.specs.Report.{short, places, shown, figure, figures, heading, tool, moduleLine, toolLine, joined, tableOf, moduleLines, reportOf}
 
 pub figure-space : (n d : ℕ) → length (figure n d) ≡ length (shown (printedOf n d)) + 1
 unfolding figure
@@ -69,7 +69,7 @@ figures-length-le q =
 
 -- the lines of the first ten modules take a byte less each
 module-lines-length : (each : ℕ → Quantities) (n : ℕ) → length (moduleLines each n) + 10 ≤ 38 * n + (10 - n)
-unfolding linesOf
+unfolding joined
 module-lines-length each zero = lit≤ tt
 module-lines-length each (suc n) =
     let before = module-lines-length each n in
@@ -85,5 +85,5 @@ length-report n each whole h = simp length-append (omega (arith, module-lines-le
 
 -- 64 modules whose every figure has a base reach it
 pub length-reached : let q : Quantities = record { total = 1; uptime = 1; production = 1; actual = 1; effective = 1 } in length (reportOf 64 (λ m. q) q) ≡ 2494
-unfolding reportOf tableOf linesOf heading moduleLine short toolLine tool figures figure shown places printedOf based
+unfolding reportOf tableOf joined heading moduleLine short toolLine tool figures figure shown places printedOf based
 length-reached = refl

@@ -16,7 +16,7 @@ use Rattle.e79.specs.declared.Printed.{Printed}
 use Rattle.e79.specs.declared.Printed.the-variants.{Figure, NoBase}
 use Rattle.report.specs.Text.{ascii}
 use Rattle.report.specs.Lines.{ends, Line, Lines, none, more, LastLine}
-use Rattle.report.specs.Report.{digit, short, places, shown, figure, figures, heading, tool, moduleLine, toolLine, linesOf, tableOf, moduleLines, reportOf}
+use Rattle.report.specs.Report.{digit, short, places, shown, figure, figures, heading, tool, moduleLine, toolLine, joined, tableOf, moduleLines, reportOf}
 
 -- ---- line ends of texts put together
 ends-append : (s t : List ℕ) → ends (s ++ t) ≡ ends s + ends t
@@ -87,8 +87,8 @@ tool-line q = behind tool refl (figures-line q)
 
 module _ (head : List ℕ) (line : ℕ → List ℕ) (heading : Line head) (each : (m : ℕ) → Line (line m)) where
   -- the heading and the modules' lines, one more at a time
-  front-lines : (n : ℕ) → Lines (suc n) (head ++ linesOf line n)
-  unfolding linesOf
+  front-lines : (n : ℕ) → Lines (suc n) (head ++ joined line n)
+  unfolding joined
   front-lines zero = rw append-nil (more none heading)
   front-lines (suc n) = rw append-assoc at (more (front-lines n) (each n))
 
@@ -99,11 +99,11 @@ module _ (head : List ℕ) (line : ℕ → List ℕ) (heading : Line head) (each
   -- the last line, behind the heading and the modules' lines, begins with a word
   pub table-last : (n : ℕ) (word last : List ℕ) → Line last → take (length word) last ≡ word → LastLine (tableOf head line n last) (n + 1) word
   unfolding tableOf
-  table-last n word last l e = record { front = head ++ linesOf line n; last = last; whole = refl; lines = rw add-one (front-lines n); line = l; begins = e }
+  table-last n word last l e = record { front = head ++ joined line n; last = last; whole = refl; lines = rw add-one (front-lines n); line = l; begins = e }
 
 pub table-first : (head : List ℕ) (line : ℕ → List ℕ) (n : ℕ) (last : List ℕ) → take (length head) (tableOf head line n last) ≡ head
 unfolding tableOf
-table-first head line n last = rw append-assoc (take-append-seam head (linesOf line n ++ last))
+table-first head line n last = rw append-assoc (take-append-seam head (joined line n ++ last))
 
 -- ---- the report
 

@@ -68,19 +68,19 @@ moduleLine m q = short m ++ figures q
 unfoldable pub toolLine : Quantities → List ℕ
 toolLine q = tool ++ figures q
 
--- the lines of modules 0 up to n - 1, by number
-unfoldable pub linesOf : (ℕ → List ℕ) → ℕ → List ℕ
-linesOf line zero = []
-linesOf line (suc n) = linesOf line n ++ line n
+-- the texts of 0 up to n - 1, one behind the other
+unfoldable pub joined : (ℕ → List ℕ) → ℕ → List ℕ
+joined text zero = []
+joined text (suc n) = joined text n ++ text n
 
 -- a table: its heading, a line for each of so many modules, and its last line, which is the tool's
 unfoldable pub tableOf : List ℕ → (ℕ → List ℕ) → ℕ → List ℕ → List ℕ
-unfolding linesOf
-tableOf head line n last = head ++ linesOf line n ++ last
+unfolding joined
+tableOf head line n last = head ++ joined line n ++ last
 
 -- the report on so many modules, from each one's quantities and the tool's
 abbrev pub moduleLines : (ℕ → Quantities) → ℕ → List ℕ
-moduleLines each n = linesOf (λ m. moduleLine m (each m)) n
+moduleLines each n = joined (λ m. moduleLine m (each m)) n
 
 unfoldable pub reportOf : ℕ → (ℕ → Quantities) → Quantities → List ℕ
 unfolding tableOf
