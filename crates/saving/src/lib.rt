@@ -1,0 +1,43 @@
+// A file written whole or not at all.
+ghost use mathlib.Core.Path.{_≡_};
+ghost use Prim.Native.Nat.{min};
+ghost use Rattle.report.specs.Report.{AtFront};
+ghost use Rattle.saving.specs.Names.{newName};
+
+fn least(a: usize, b: usize) -> usize
+    ensures { λ r. ⌜ r ≡ min a b ⌝ }
+{
+    if a < b { a } else { b }
+}
+
+// Writes the name of the new file: the path and `.new` behind it.
+fn put_name(path: &[u8], name: &mut [u8; 4200]) -> usize
+    ensures { λ r. ⌜ AtFront (newName (now (path .entry))) 4200 (now (name .entry)) r (now (name .exit)) ⌝ }
+{
+    let n = report::put_text(name, 0, &path[..least(path.len(), 4196)]);
+    report::put_text(name, n, b".new")
+}
+
+// Writes all bytes to an open file, waits until they have reached the device, and closes it.
+fn fill(fd: i32, bytes: &[u8]) -> bool {
+    let kept = io::write_all(fd, bytes) && libc::fsync(fd) == 0;
+    let closed = libc::close(fd) == 0;
+    kept && closed
+}
+
+// Writes the bytes to a new file beside the one that the path names, and renames it into place once all of them are kept. Where it answers false the path
+// names what it named before, the new file is gone, and errno says why; a new file that is there already, left by a run that was cut off, is such a
+// reason.
+pub fn replace(path: &[u8], bytes: &[u8]) -> bool {
+    let mut name = [0u8; 4200];
+    let n = put_name(path, &mut name);
+    let fd = os::create(&name[..n]);
+    if fd < 0 {
+        return false;
+    }
+    if fill(fd, bytes) && os::rename(&name[..n], path) == 0 {
+        return true;
+    }
+    os::unlink(&name[..n]);
+    false
+}
