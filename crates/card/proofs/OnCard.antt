@@ -3,11 +3,11 @@ use mathlib.Core.Path.{_≡_, refl, sym, _∙_}
 use mathlib.Core.List.{List, []}
 use Prim.Native.Nat.{ℕ, _+_, _*_, _≤_, _<_}
 use native.Mathlib.Omega.{arith}
-use lib.Dec.{T, lit≤}
+use lib.Dec.{T}
 use borrow.Author.Tests.{le-leb, lt-leb}
 use lib.ListN.{length, getD, List·getD-eq-default}
 use Rattle.report.specs.Report.{Put, AtFront}
-use Rattle.report.proofs.Written.{read-as}
+use Rattle.report.proofs.Written.{read-as, front-nothing}
 use Rattle.card.specs.Card.{card, field, rowText, explained}
 use Rattle.card.specs.Fields.{asLines, firstLine, behindLines}
 use Rattle.card.proofs.TextLines.{plain, allPlain, line-of, line-length}
@@ -45,16 +45,13 @@ past-card n j h = no-number ∙ sym (List·getD-eq-default card [] {n = 3 * n + 
 
 -- ---- what is said of a number
 
-nothing : (before : List ℕ) → AtFront [] 512 before 0 before
-nothing before = record { size = refl; bytes = refl; longest = lit≤ tt }
-
 pub row-none : (n : ℕ) (before : List ℕ) → n < 1 → AtFront (explained n) 512 before 0 before
 unfolding explained
-row-none n before h = rw (lt-leb 1 n h) (nothing before)
+row-none n before h = rw (lt-leb 1 n h) (front-nothing 512 before)
 
 pub row-past : (n : ℕ) (before : List ℕ) → 18 < n → AtFront (explained n) 512 before 0 before
 unfolding explained
-row-past n before h = rw (le-leb 1 n (omega arith), lt-leb n 18 h) (nothing before)
+row-past n before h = rw (le-leb 1 n (omega arith), lt-leb n 18 h) (front-nothing 512 before)
 
 pub row-of : (n : ℕ) {before after : List ℕ} {r : ℕ} → 1 ≤ n → n ≤ 18 → AtFront (rowText n) 512 before r after → AtFront (explained n) 512 before r after
 unfolding explained

@@ -1,11 +1,12 @@
 -- A text written into a buffer: what the buffer keeps, and texts written one behind the other. Assumes nothing.
-use mathlib.Core.Path.{_≡_, ap, _∙_}
+use mathlib.Core.Path.{_≡_, refl, sym, ap, _∙_}
 use mathlib.Core.List.{List, [], _∷_, _++_, append-assoc, append-nil}
-use Prim.Native.Nat.{ℕ, zero, suc, _+_, _≤_}
+use Prim.Native.Nat.{ℕ, zero, suc, _+_, _≤_, _<_}
 use native.Mathlib.Nat.{zero-add, suc-add, le-refl}
+use native.Mathlib.Numerals.{add-one}
 use native.Mathlib.Omega.{arith}
-use lib.ListN.{length, take, drop, length-append, drop-of-length-le}
-use lib.Seq.{paste, take-length, length-paste, drop-paste, drop-drop, take-at, drop-at, take-append-seam, drop-append-add, drop-nil, take-all, length-take-le}
+use lib.ListN.{length, take, drop, getD, set, length-append, length-set, drop-of-length-le}
+use lib.Seq.{paste, paste-zero, paste-suc, take-length, length-paste, drop-paste, drop-drop, take-at, drop-at, take-append-seam, drop-append-add, drop-nil, take-all, length-take-le}
 use Rattle.report.specs.Report.{written, Put, AtFront}
 
 -- a whole text pasted in
@@ -57,16 +58,51 @@ then {xs} {ys} {s} {t} {u} {at} {n} {m} p q =
 pub read-as : {xs ys s t : List ℕ} {at r : ℕ} → xs ≡ ys → Put xs s at r t → Put ys s at r t
 read-as e p = rw e at p
 
--- a text put at the front
+-- a text at the front
+pub fronted : {text : List ℕ} {most : ℕ} {before : List ℕ} {r : ℕ} {after : List ℕ} → r ≡ length text → after ≡ text ++ drop r before → r ≤ most → AtFront text most before r after
+fronted {text} {most} {before} {r} {after} size bytes longest =
+    let within : r ≤ length after = rw bytes (omega (arith, size, length-append text (drop r before))) in
+    record { size = size; bytes = bytes; longest = longest; within = within; part = sym (length-take-le r after within) }
+
+-- put there
 pub at-front : {text before after : List ℕ} {r : ℕ} (most : ℕ) → length text ≤ most → Put text before 0 r after → AtFront text most before r after
 at-front {text} {before} most h p =
     let size = p .next ∙ zero-add (length text) in
-    record { size = size; bytes = rw size (p .bytes ∙ written-front before text); longest = omega (arith, size) }
+    fronted size (rw size (p .bytes ∙ written-front before text)) (omega (arith, size))
 
--- the buffer is no shorter
-pub front-within : {text : List ℕ} {most : ℕ} {before : List ℕ} {r : ℕ} {after : List ℕ} → AtFront text most before r after → r ≤ length after
-front-within {text} {most} {before} {r} p = rw (p .bytes) (omega (arith, p .size, length-append text (drop r before)))
+-- no text at all
+pub front-nothing : (most : ℕ) (before : List ℕ) → AtFront [] most before 0 before
+front-nothing most before = fronted refl refl (omega arith)
 
--- and begins with the text
+-- of one that may be longer
+pub front-more : {text : List ℕ} {few most : ℕ} {before : List ℕ} {r : ℕ} {after : List ℕ} → few ≤ most → AtFront text few before r after → AtFront text most before r after
+front-more h p = fronted (p .size) (p .bytes) (omega (arith, p .longest))
+
+-- the buffer begins with the text
 pub front-text : {text : List ℕ} {most : ℕ} {before : List ℕ} {r : ℕ} {after : List ℕ} → AtFront text most before r after → take r after ≡ text
 front-text {text} {most} {before} p = rw (p .bytes, p .size) (take-append-seam text (drop (length text) before))
+
+-- ---- a text copied byte by byte
+
+-- its first i bytes are copied
+pub record Copied (text before : List ℕ) (at i : ℕ) (after : List ℕ) : Type 0 where
+  pub within : i ≤ length text
+  pub bytes : after ≡ paste before at text i
+  pub size : length after ≡ length before
+
+module _ (text before : List ℕ) (at : ℕ) (room : at + length text ≤ length before) where
+  pub copied-none : Copied text before at 0 before
+  copied-none = record { within = omega arith; bytes = paste-zero before at text; size = refl }
+
+  pub copied-more : (i b d : ℕ) (after : List ℕ) → i < length text → b ≡ getD text i d → Copied text before at i after → Copied text before at (i + 1) (set after (at + i) b)
+  copied-more i b d after h e c =
+      record {
+        within = omega arith;
+        bytes = rw (add-one i, e, c .bytes) (paste-suc before at text i d (omega arith) h);
+        size = simp length-set (c .size);
+      }
+
+  pub copied-all : (i : ℕ) (after : List ℕ) → length text ≤ i → Copied text before at i after → Put text before at (at + i) after
+  copied-all i after h c =
+      let all : i ≡ length text = omega (arith, c .within) in
+      record { next = ap (λ k. at + k) all; bytes = c .bytes ∙ rw all (sym (written-paste before at text)) }

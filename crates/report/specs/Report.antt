@@ -121,3 +121,6 @@ pub record AtFront (text : List ℕ) (most : ℕ) (before : List ℕ) (r : ℕ) 
   pub size : r ≡ length text
   pub bytes : after ≡ text ++ drop r before
   pub longest : r ≤ most
+  -- both follow, and are what lending the part that was written asks
+  pub within : r ≤ length after
+  pub part : r ≡ length (take r after)

@@ -20,7 +20,7 @@ use Rattle.rules.proofs.FirstGround.{refused-not}
 use Rattle.report.specs.Report.{heading, moduleLine, moduleLines, toolLine, reportOf, refusedLine, Put, AtFront}
 use Rattle.report.proofs.Lengths.{heading-length, length-report}
 use Rattle.report.proofs.Tables.{table-length}
-use Rattle.report.proofs.Written.{written-front, at-front}
+use Rattle.report.proofs.Written.{written-front, at-front, front-more}
 use Rattle.judging.specs.Working.{Consistent}
 use Rattle.reporting.specs.Reports.{printedBy, printed, Prints, reportText, verdictFor, of-log, short, Examined, writtenBy, writtenPart, Written}
 use Rattle.rules.proofs.KnownRefusals.{log-refusal}
@@ -102,7 +102,7 @@ module _ (text : Log → List ℕ) (most : ℕ) (s b : List ℕ) (r : ℕ) (a : 
   unfolding printed
   prints-refused x e p h =
       let same : printed text s ≡ refusedLine x = ap (λ (w : Verdict). printedBy w (text (decode s))) e in
-      rw same (record { size = p .size; bytes = p .bytes; longest = omega (arith, p .longest) })
+      rw same (front-more h p)
 
   pub prints-text : verdict s ≡ Accepted → length (text (decode s)) ≤ most → Put (text (decode s)) b 0 r a → Prints text most s b r a
   unfolding printed

@@ -6,11 +6,10 @@ use mathlib.Core.List.{List}
 use Prim.Native.Nat.{ℕ, _^_, _≤_, _<_}
 use native.Mathlib.Omega.{arith}
 use lib.ListN.{length, replicate}
-use lib.Seq.{length-take-le}
 use Rattle.report.specs.Text.{reading}
 use Rattle.report.specs.Report.{decimal, AtFront}
 use Rattle.report.proofs.Decimals.{decimal-length, decimal-reads}
-use Rattle.report.proofs.Written.{at-front, front-within, front-text}
+use Rattle.report.proofs.Written.{at-front, front-text}
 use Rattle.parsing.specs.declared.Parsed.the-variants.{Number, NoNumber}
 use Rattle.parsing.specs.Parsed.{NotDecimal, ParsedFrom}
 use Rattle.parsing.proofs.parse_number.Statement.{statement}
@@ -41,10 +40,10 @@ front : (c : tie.After-put-decimal) → let n = c .before .before .before .digit
 front c = at-front 20 (few _ (fits (c .before .before))) (c .put-decimal .ensures)
 
 array-share-prefix-space : tie.Need-array-share-prefix-space
-array-share-prefix-space c = front-within (front (c .before))
+array-share-prefix-space c = front (c .before) .within
 
 slice-aggregate-same : tie.Need-slice-aggregate-same
-slice-aggregate-same c = sym (length-take-le _ _ (front-within (front (c .before .before))))
+slice-aggregate-same c = front (c .before .before) .part
 
 returns : tie.Need-returns
 returns c = some _ _ (sym (c .before .same .ensures .0 (c .if1 .taken)) ∙ front-text (front (c .before .before .before .before)))

@@ -1,0 +1,196 @@
+// One command for a log: its report, its state times, its quantities, and what a refusal means.
+mod errors;
+
+ghost use Prim.Native.Nat.{_≤_};
+ghost use lib.ListN.{length};
+use libc::STDERR_FILENO;
+use libc::STDIN_FILENO;
+use libc::STDOUT_FILENO;
+use parsing::Parsed;
+use printing::Table;
+
+fn help(fd: i32) {
+    io::write_all(
+        fd,
+        b"\
+toollog report [LOG]       the four efficiencies and OEE of each module and of the tool\n\
+toollog times [LOG]        their six state times, in ms\n\
+toollog quantities [LOG]   their total time, uptime, production time, and theoretical times for actual and effective units, in ms\n\
+toollog explain N          what refusal N means, and what to look for\n\
+toollog help               this text\n\
+\n\
+LOG is the name of a file. Left out, or -, it is standard input.\n\
+A refused log prints 'refused N list L at P', and why in words on standard error.\n",
+    );
+}
+
+// Writes to standard output, and says so where that fails.
+fn put_out(text: &[u8]) {
+    let is_written = io::write_all(STDOUT_FILENO, text);
+    if !is_written {
+        errors::fail(b"standard output");
+    }
+}
+
+// Whether there is an argument `most` or a later one. It says that this is one too many.
+fn has_too_many(most: usize) -> bool {
+    if os::arg_count() <= most {
+        return false;
+    }
+    let mut text = io::buffer();
+    let n = os::arg(most, &mut text);
+    errors::complain(&text[..n], b"an argument too many\n");
+    true
+}
+
+// ---- what is asked of a log
+
+enum Asked {
+    Report,
+    Times,
+    Quantities,
+}
+
+fn print_report(log: &[u8]) {
+    let mut space = [0u8; 2494];
+    let size = tool_log::print_report(log, &mut space);
+    put_out(&space[..size]);
+}
+
+fn print_table(table: Table, log: &[u8]) {
+    let mut space = [0u8; 5000];
+    let size = printing::print_table(table, log, &mut space);
+    put_out(&space[..size]);
+}
+
+// Prints why the log of this name is refused, if it is.
+fn print_words(name: &[u8], log: &[u8])
+    requires { ⌜ length (now name) ≤ 4096 ⌝ }
+{
+    let mut space = [0u8; 512];
+    let size = printing::print_words(log, &mut space);
+    if size > 0 {
+        errors::complain(name, &space[..size]);
+    }
+}
+
+fn print(asked: Asked, name: &[u8], log: &[u8])
+    requires { ⌜ length (now name) ≤ 4096 ⌝ }
+{
+    match asked {
+        Asked::Report => print_report(log),
+        Asked::Times => print_table(Table::Times, log),
+        Asked::Quantities => print_table(Table::Quantities, log),
+    }
+    print_words(name, log);
+}
+
+// Reads the log of this name. The longest takes 62,618 bytes: one byte more is enough to see that a log is too long. errno is 0 when it begins, and a read
+// that fails sets it.
+fn answer(asked: Asked, name: &[u8], fd: i32)
+    requires { ⌜ length (now name) ≤ 4096 ⌝ }
+{
+    let mut input = [0u8; 62619];
+    let n = io::read_full(fd, &mut input);
+    if os::errno() != 0 {
+        errors::fail(name);
+        return;
+    }
+    print(asked, name, &input[..n]);
+}
+
+// The log is the file that argument 2 names, or standard input.
+fn answer_named(asked: Asked) {
+    if has_too_many(3) {
+        return;
+    }
+    if os::arg_count() < 3 {
+        answer(asked, b"standard input", STDIN_FILENO);
+        return;
+    }
+    let mut name = io::buffer();
+    let n = os::arg(2, &mut name);
+    if os::errno() != 0 {
+        errors::fail(&name);
+        return;
+    }
+    if check::same(&name[..n], b"-") {
+        answer(asked, b"standard input", STDIN_FILENO);
+        return;
+    }
+    let fd = os::open_read(&name[..n]);
+    if fd < 0 {
+        errors::fail(&name[..n]);
+        return;
+    }
+    answer(asked, &name[..n], fd);
+    libc::close(fd);
+}
+
+// ---- what a refusal means
+
+fn explain_number(text: &[u8], number: u64)
+    requires { ⌜ length (now text) ≤ 4096 ⌝ }
+{
+    let mut space = [0u8; 512];
+    let size = card::explain(number as usize, &mut space);
+    if size == 0 {
+        errors::complain(text, b"no refusal has this number\n");
+        return;
+    }
+    put_out(&space[..size]);
+}
+
+fn explain_text(text: &[u8])
+    requires { ⌜ length (now text) ≤ 4096 ⌝ }
+{
+    let parsed = parsing::parse_number(text);
+    match parsed {
+        Parsed::Number(n) => explain_number(text, n),
+        Parsed::NoNumber => errors::complain(text, b"not a number\n"),
+    }
+}
+
+fn explain() {
+    if has_too_many(3) {
+        return;
+    }
+    if os::arg_count() < 3 {
+        errors::complain(b"explain", b"which refusal? its number is missing\n");
+        return;
+    }
+    let mut text = io::buffer();
+    let n = os::arg(2, &mut text);
+    if os::errno() != 0 {
+        errors::complain(&text, b"not a number\n");
+        return;
+    }
+    explain_text(&text[..n]);
+}
+
+// ---- the subcommands
+
+fn run(word: &[u8]) {
+    if check::same(word, b"report") {
+        answer_named(Asked::Report);
+    } else if check::same(word, b"times") {
+        answer_named(Asked::Times);
+    } else if check::same(word, b"quantities") {
+        answer_named(Asked::Quantities);
+    } else if check::same(word, b"explain") {
+        explain();
+    } else if check::same(word, b"help") {
+        if !has_too_many(2) {
+            help(STDOUT_FILENO);
+        }
+    } else {
+        help(STDERR_FILENO);
+    }
+}
+
+// A word that is longer than every subcommand is none of them.
+fn main() {
+    let mut word = [0u8; 16];
+    let n = os::arg(1, &mut word);
+    run(&word[..n]);
+}
