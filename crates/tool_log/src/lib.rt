@@ -17,3 +17,10 @@ pub use reporting::examine;
 pub use reporting::print_report;
 pub use reporting::report;
 pub use reporting::write_report;
+
+// The tables of state times and of quantities, a refusal in words, and its row on the card.
+pub use card::explain;
+pub use card::words_of;
+pub use printing::Table;
+pub use printing::print_table;
+pub use printing::print_words;

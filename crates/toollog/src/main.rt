@@ -1,13 +1,11 @@
 // One command for a log: its report, its state times, its quantities, and what a refusal means.
-mod errors;
-
 ghost use Prim.Native.Nat.{_≤_};
 ghost use lib.ListN.{length};
 use libc::STDERR_FILENO;
 use libc::STDIN_FILENO;
 use libc::STDOUT_FILENO;
 use parsing::Parsed;
-use printing::Table;
+use tool_log::Table;
 
 fn help(fd: i32) {
     io::write_all(
@@ -28,7 +26,7 @@ A refused log prints 'refused N list L at P', and why in words on standard error
 fn put_out(text: &[u8]) {
     let is_written = io::write_all(STDOUT_FILENO, text);
     if !is_written {
-        errors::fail(b"standard output");
+        saying::fail(b"standard output");
     }
 }
 
@@ -39,7 +37,7 @@ fn has_too_many(most: usize) -> bool {
     }
     let mut text = io::buffer();
     let n = os::arg(most, &mut text);
-    errors::complain(&text[..n], b"an argument too many\n");
+    saying::complain(&text[..n], b"an argument too many\n");
     true
 }
 
@@ -59,7 +57,7 @@ fn print_report(log: &[u8]) {
 
 fn print_table(table: Table, log: &[u8]) {
     let mut space = [0u8; 5000];
-    let size = printing::print_table(table, log, &mut space);
+    let size = tool_log::print_table(table, log, &mut space);
     put_out(&space[..size]);
 }
 
@@ -68,9 +66,9 @@ fn print_words(name: &[u8], log: &[u8])
     requires { ⌜ length (now name) ≤ 4096 ⌝ }
 {
     let mut space = [0u8; 512];
-    let size = printing::print_words(log, &mut space);
+    let size = tool_log::print_words(log, &mut space);
     if size > 0 {
-        errors::complain(name, &space[..size]);
+        saying::complain(name, &space[..size]);
     }
 }
 
@@ -93,7 +91,7 @@ fn answer(asked: Asked, name: &[u8], fd: i32)
     let mut input = [0u8; 62619];
     let n = io::read_full(fd, &mut input);
     if os::errno() != 0 {
-        errors::fail(name);
+        saying::fail(name);
         return;
     }
     print(asked, name, &input[..n]);
@@ -111,7 +109,7 @@ fn answer_named(asked: Asked) {
     let mut name = io::buffer();
     let n = os::arg(2, &mut name);
     if os::errno() != 0 {
-        errors::fail(&name);
+        saying::fail(&name);
         return;
     }
     if check::same(&name[..n], b"-") {
@@ -120,7 +118,7 @@ fn answer_named(asked: Asked) {
     }
     let fd = os::open_read(&name[..n]);
     if fd < 0 {
-        errors::fail(&name[..n]);
+        saying::fail(&name[..n]);
         return;
     }
     answer(asked, &name[..n], fd);
@@ -133,9 +131,9 @@ fn explain_number(text: &[u8], number: u64)
     requires { ⌜ length (now text) ≤ 4096 ⌝ }
 {
     let mut space = [0u8; 512];
-    let size = card::explain(number as usize, &mut space);
+    let size = tool_log::explain(number as usize, &mut space);
     if size == 0 {
-        errors::complain(text, b"no refusal has this number\n");
+        saying::complain(text, b"no refusal has this number\n");
         return;
     }
     put_out(&space[..size]);
@@ -147,7 +145,7 @@ fn explain_text(text: &[u8])
     let parsed = parsing::parse_number(text);
     match parsed {
         Parsed::Number(n) => explain_number(text, n),
-        Parsed::NoNumber => errors::complain(text, b"not a number\n"),
+        Parsed::NoNumber => saying::complain(text, b"not a number\n"),
     }
 }
 
@@ -156,13 +154,13 @@ fn explain() {
         return;
     }
     if os::arg_count() < 3 {
-        errors::complain(b"explain", b"which refusal? its number is missing\n");
+        saying::complain(b"explain", b"which refusal? its number is missing\n");
         return;
     }
     let mut text = io::buffer();
     let n = os::arg(2, &mut text);
     if os::errno() != 0 {
-        errors::complain(&text, b"not a number\n");
+        saying::complain(&text, b"not a number\n");
         return;
     }
     explain_text(&text[..n]);

@@ -1,4 +1,4 @@
--- `toollog::errors::put_shown` meets its contract: after i turns the first i bytes are copied as they are shown. Assumes nothing.
+-- `saying::put_shown` meets its contract: after i turns the first i bytes are copied as they are shown. Assumes nothing.
 use borrow.Author.Needs.{needs}
 use mathlib.Core.Path.{refl}
 use Prim.Native.Nat.{_-_}
@@ -6,10 +6,10 @@ use mathlib.Core.List.{map}
 use native.Mathlib.Omega.{arith}
 use lib.ListN.{length}
 use Rattle.report.proofs.Written.{Copied}
-use Rattle.toollog.specs.Names.{shownByte}
-use Rattle.toollog.proofs.Shown.{shown-none, shown-more, shown-all, shown-length}
-use Rattle.toollog.proofs.errors.put_shown.Statement.{statement}
-use Rattle.toollog.proofs.errors.put_shown.Tie as tie
+use Rattle.saying.specs.Names.{shownByte}
+use Rattle.saying.proofs.Shown.{shown-none, shown-more, shown-all, shown-length}
+use Rattle.saying.proofs.put_shown.Statement.{statement}
+use Rattle.saying.proofs.put_shown.Tie as tie
 
 abbrev Inv-loop : tie.InvT-loop
 Inv-loop buf₀ at name i₀ buf i = Copied (map shownByte name) buf₀ at i buf

@@ -1,8 +1,8 @@
--- `toollog::errors::shown_byte` meets its contract: each test decides in turn. Assumes nothing.
+-- `saying::shown_byte` meets its contract: each test decides in turn. Assumes nothing.
 use borrow.Author.Tests.{lt-ltb, le-ltb, eq-eqb, ne-eqb}
-use Rattle.toollog.specs.Names.{shownByte}
-use Rattle.toollog.proofs.errors.shown_byte.Statement.{statement}
-use Rattle.toollog.proofs.errors.shown_byte.Tie as tie
+use Rattle.saying.specs.Names.{shownByte}
+use Rattle.saying.proofs.shown_byte.Statement.{statement}
+use Rattle.saying.proofs.shown_byte.Tie as tie
 
 returns : tie.Need-returns
 unfolding shownByte

@@ -4,8 +4,8 @@ ghost use mathlib.Core.List.{map};
 ghost use Prim.Native.Nat.{_+_, _≤_};
 ghost use lib.ListN.{length};
 ghost use Rattle.report.specs.Report.{Put, AtFront};
-ghost use Rattle.toollog.specs.Names.{about};
-ghost use Rattle.toollog.specs.Names.{shownByte as Names·shownByte};
+ghost use Rattle.saying.specs.Names.{about};
+ghost use Rattle.saying.specs.Names.{shownByte as Names·shownByte};
 use libc::STDERR_FILENO;
 
 // A byte as it is shown: `?` for one that moves the cursor.

@@ -11,7 +11,7 @@ use lib.ListN.{length, getD, set, length-map, List·getD-map}
 use Rattle.report.specs.Lines.{ends}
 use Rattle.report.specs.Report.{Put}
 use Rattle.report.proofs.Written.{Copied, copied-none, copied-more, copied-all}
-use Rattle.toollog.specs.Names.{shownByte}
+use Rattle.saying.specs.Names.{shownByte}
 
 -- no byte as it is shown ends a line
 shown-other : (b : ℕ) → eqb (shownByte b) 10 ≡ false

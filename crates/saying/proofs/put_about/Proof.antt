@@ -1,11 +1,11 @@
--- `toollog::errors::put_about` meets its contract: the name stands behind the program's. Assumes nothing.
+-- `saying::put_about` meets its contract: the name stands behind the program's. Assumes nothing.
 use borrow.Author.Needs.{needs}
 use native.Mathlib.Omega.{arith}
 use Rattle.report.proofs.Written.{then, at-front}
-use Rattle.toollog.specs.Names.{about}
-use Rattle.toollog.proofs.Shown.{shown-length}
-use Rattle.toollog.proofs.errors.put_about.Statement.{statement}
-use Rattle.toollog.proofs.errors.put_about.Tie as tie
+use Rattle.saying.specs.Names.{about}
+use Rattle.saying.proofs.Shown.{shown-length}
+use Rattle.saying.proofs.put_about.Statement.{statement}
+use Rattle.saying.proofs.put_about.Tie as tie
 
 returns : tie.Need-returns
 unfolding about
