@@ -83,7 +83,7 @@ enum { TL_NUMBER, TL_LIST, TL_PLACE, TL_REFUSAL };
  * refusal[TL_PLACE] is the record's index from 0 in its list, or the module for 11, 16 and a 7 with list 0; it is 0 for 1 to 5, 17 and 18. */
 #define TL_REFUSALS(X) \
     X(1, "no header", "under 10 bytes") \
-    X(2, "period", "0 or over 31,622,400,000 ms") \
+    X(2, "period", "0 or over 366 days (31,622,400,000 ms)") \
     X(3, "modules", "0 or over 64") \
     X(4, "counts", "over 6,000 state records, 512 standards or 2,000 unit records") \
     X(5, "length", "bytes other than 10 + 6 states + 9 standards + 11 units") \

@@ -19,7 +19,7 @@ LISTS = ("none", "states", "standards", "units")
 # Number: (trade word, ground).
 REFUSALS = {
     1: ("no header", "under 10 bytes"),
-    2: ("period", "0 or over 31,622,400,000 ms"),
+    2: ("period", "0 or over 366 days (31,622,400,000 ms)"),
     3: ("modules", "0 or over 64"),
     4: ("counts", "over 6,000 state records, 512 standards or 2,000 unit records"),
     5: ("length", "bytes other than 10 + 6 states + 9 standards + 11 units"),

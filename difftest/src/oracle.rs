@@ -425,6 +425,35 @@ impl Account {
         text.into_bytes()
     }
 
+    /// The six state times of each module and of the tool.
+    pub fn times(&self) -> Vec<u8> {
+        self.table(
+            "productive standby engineering scheduled unscheduled nonscheduled",
+            |sums| sums.state_times.to_vec(),
+        )
+    }
+
+    /// The five quantities of each module and of the tool.
+    pub fn quantities(&self) -> Vec<u8> {
+        self.table("total uptime production actual effective", |sums| {
+            sums.quantities.array().to_vec()
+        })
+    }
+
+    fn table(&self, columns: &str, numbers: impl Fn(&Sums) -> Vec<u64>) -> Vec<u8> {
+        let mut text = format!("module {columns}\n");
+        let modules = (0..).map(|module: usize| module.to_string());
+        let names = modules.take(self.modules.len()).chain(["tool".to_string()]);
+        for (name, sums) in names.zip(self.modules.iter().chain([&self.tool])) {
+            text.push_str(&name);
+            for number in numbers(sums) {
+                text.push_str(&format!(" {number}"));
+            }
+            text.push('\n');
+        }
+        text.into_bytes()
+    }
+
     /// Ground 18, of a report in a buffer with room for so many bytes.
     pub fn fits(&self, room: usize) -> Result<(), Refusal> {
         if self.report().len() > room {

@@ -77,6 +77,18 @@ impl Refusal {
         Refusal::new(number, NO_LIST, 0)
     }
 
+    /// Where it points to, in words.
+    pub fn whereabouts(&self) -> Option<String> {
+        let place = self.place;
+        match (self.list, self.number) {
+            (STATES, _) => Some(format!("record {place} of the states")),
+            (STANDARDS, _) => Some(format!("record {place} of the standards")),
+            (UNITS, _) => Some(format!("record {place} of the units")),
+            (_, 7 | 11 | 16) => Some(format!("module {place}")),
+            _ => None,
+        }
+    }
+
     /// The line that a refused log prints.
     pub fn line(&self) -> String {
         format!(

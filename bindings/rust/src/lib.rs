@@ -39,7 +39,7 @@ use Ground::*;
 /// Each ground with its trade word and what it says, by number from 1.
 pub const GROUNDS: [(Ground, &str, &str); 18] = [
     (NoHeader, "no header", "under 10 bytes"),
-    (Period, "period", "0 or over 31,622,400,000 ms"),
+    (Period, "period", "0 or over 366 days (31,622,400,000 ms)"),
     (Modules, "modules", "0 or over 64"),
     (Counts, "counts", "over 6,000 state records, 512 standards or 2,000 unit records"),
     (Length, "length", "bytes other than 10 + 6 states + 9 standards + 11 units"),
