@@ -2,8 +2,8 @@
 use mathlib.Core.Path.{_≡_, refl, sym}
 use mathlib.Core.List.{List, [], _∷_, _++_, append-assoc, append-nil}
 use mathlib.Core.Bool.{false}
-use Prim.Native.Nat.{ℕ, zero, suc, _+_, _/_}
-use native.Mathlib.Nat.{add-assoc, zero-add}
+use Prim.Native.Nat.{ℕ, zero, suc, _+_, _/_, _≤_}
+use native.Mathlib.Nat.{add-assoc, zero-add, le-refl}
 use native.Mathlib.Numerals.{add-one, add-two}
 use native.Mathlib.Decide.{decLt}
 use native.Mathlib.Omega.{arith}
@@ -15,8 +15,9 @@ use Rattle.e79.specs.declared.Quantities.{Quantities}
 use Rattle.e79.specs.declared.Printed.{Printed}
 use Rattle.e79.specs.declared.Printed.the-variants.{Figure, NoBase}
 use Rattle.report.specs.Text.{ascii}
+use Rattle.report.proofs.Decimals.{decimal-below, decimal-more}
 use Rattle.report.specs.Lines.{ends, Line, Lines, none, more, LastLine}
-use Rattle.report.specs.Report.{digit, short, places, shown, figure, figures, heading, tool, moduleLine, toolLine, joined, tableOf, moduleLines, reportOf}
+use Rattle.report.specs.Report.{digit, decimal, short, places, shown, figure, figures, heading, tool, moduleLine, toolLine, joined, tableOf, moduleLines, reportOf}
 
 -- ---- line ends of texts put together
 ends-append : (s t : List ℕ) → ends (s ++ t) ≡ ends s + ends t
@@ -24,7 +25,7 @@ unfolding ends
 ends-append [] t = sym (zero-add (ends t))
 ends-append (b ∷ s) t = rw (ends-append s t, add-assoc)
 
-no-ends : (s t : List ℕ) → ends s ≡ 0 → ends t ≡ 0 → ends (s ++ t) ≡ 0
+pub no-ends : (s t : List ℕ) → ends s ≡ 0 → ends t ≡ 0 → ends (s ++ t) ≡ 0
 no-ends s t h k = rw (ends-append, h, k)
 
 line-ends : {s : List ℕ} → Line s → ends s ≡ 1
@@ -41,13 +42,25 @@ lines-ends (more {n} {s} {x} l k) = rw (ends-append, lines-ends l, line-ends k) 
 digit-other : (n : ℕ) → eqb (digit n) 10 ≡ false
 digit-other n = ne-eqb (digit n) 10 (λ e. omega arith)
 
-short-inside : (m : ℕ) → ends (short m) ≡ 0
+pub short-inside : (m : ℕ) → ends (short m) ≡ 0
 unfolding ends short
 short-inside m =
     elim (decLt m 10) [
       | yes h ↦ rw (lt-ltb m 10 h, digit-other)
       | no h ↦ rw (le-ltb m 10 (omega arith), digit-other (m / 10), digit-other m)
     ]
+
+decimal-in : (k n : ℕ) → n ≤ k → ends (decimal n) ≡ 0
+unfolding ends
+decimal-in zero n h = rw (decimal-below n (omega arith), digit-other)
+decimal-in (suc k) n h =
+    elim (decLt n 10) [
+      | yes b ↦ rw (decimal-below n b, digit-other)
+      | no b ↦ rw (decimal-more n (omega arith)) (no-ends (decimal (n / 10)) (digit n ∷ []) (decimal-in k (n / 10) (omega arith)) (rw digit-other))
+    ]
+
+pub decimal-inside : (n : ℕ) → ends (decimal n) ≡ 0
+decimal-inside n = decimal-in n n (le-refl n)
 
 shown-inside : (p : Printed) → ends (shown p) ≡ 0
 unfolding ends shown places
@@ -59,7 +72,7 @@ unfolding figure ends
 figure-inside n d = rw shown-inside
 
 -- ---- each line
-behind : (s : List ℕ) {t : List ℕ} → ends s ≡ 0 → Line t → Line (s ++ t)
+pub behind : (s : List ℕ) {t : List ℕ} → ends s ≡ 0 → Line t → Line (s ++ t)
 behind s h l = record { inside = s ++ l .inside; ending = rw (l .ending, append-assoc); no-other = no-ends s (l .inside) h (l .no-other) }
 
 figures-line : (q : Quantities) → Line (figures q)
