@@ -4,13 +4,14 @@ use mathlib.Core.List.{List, _++_}
 use Prim.Native.Nat.{ℕ, zero, suc, _+_}
 use lib.ListN.{length, getD}
 use Rattle.records.specs.Log.{Log}
+use Rattle.rules.specs.Quantities.{moduleTimes, toolTimes, ofModule, ofTool}
 use Rattle.report.specs.Text.{ascii}
 use Rattle.report.specs.Lines.{ends, Line, Lines, LastLine}
 use Rattle.report.specs.Report.{decimal, short, tool, joined}
 use Rattle.report.proofs.Lines.{no-ends, short-inside, decimal-inside, behind, table-lines, table-last}
 use Rattle.printing.specs.declared.Table.{Table}
 use Rattle.printing.specs.declared.Table.the-variants.{Times, Quantities}
-use Rattle.printing.specs.Tables.{number, numbers, headingOf, ofModuleIn, ofToolIn, lineIn, toolIn, tableText}
+use Rattle.printing.specs.Tables.{number, numbers, headingOf, told, lineIn, toolIn, tableText}
 
 number-inside : (v : ℕ) → ends (number v) ≡ 0
 unfolding number ends
@@ -33,11 +34,11 @@ heading-line Quantities = record { inside = ascii "module total uptime productio
 module _ (t : Table) (l : Log) where
   module-line : (m : ℕ) → Line (lineIn t l m)
   unfolding lineIn
-  module-line m = behind (short m) (short-inside m) (numbers-line (ofModuleIn t l m))
+  module-line m = behind (short m) (short-inside m) (numbers-line (told t (moduleTimes l m) (ofModule l m)))
 
   tool-line : Line (toolIn t l)
   unfolding toolIn tool ends
-  tool-line = behind tool refl (numbers-line (ofToolIn t l))
+  tool-line = behind tool refl (numbers-line (told t (toolTimes l) (ofTool l)))
 
   pub printed-lines : Lines (l .modules + 2) (tableText t l)
   unfolding tableText

@@ -8,6 +8,7 @@ use lib.ListN.{length, length-append}
 use Rattle.records.specs.Log.{Log}
 use Rattle.e79.specs.declared.Quantities.{Quantities}
 use Rattle.e79.specs.Quantities.{Ordered}
+use Rattle.rules.specs.declared.StateTimes.{StateTimes}
 use Rattle.rules.specs.Quantities.{sumBelow, timeIn, moduleTimes, toolTimes, ofModule, ofTool, timesOf, quantitiesOf}
 use Rattle.judging.specs.Working.{Consistent}
 use Rattle.judging.proofs.SumLaws.{sum-le}
@@ -18,7 +19,7 @@ use Rattle.report.proofs.Tables.{joined-longest, table-length}
 use Rattle.printing.specs.declared.Table.{Table}
 use Rattle.printing.specs.declared.Table.the-variants.{Times, Quantities as OfQuantities}
 use Rattle.printing.proofs.Numbers.{Below, numbers-longest}
-use Rattle.printing.specs.Tables.{numbers, headingOf, ofModuleIn, ofToolIn, lineIn, toolIn, tableText}
+use Rattle.printing.specs.Tables.{numbers, headingOf, told, lineIn, toolIn, tableText}
 
 -- ---- the heading
 
@@ -30,17 +31,21 @@ quantities-heading t e = ap headingOf (sym e)
 
 -- ---- a module's line and the tool's
 
+-- a table tells of the same times and quantities the same
+pub told-same : (table : Table) {t u : StateTimes} {q r : Quantities} → t ≡ u → q ≡ r → numbers (told table t q) ≡ numbers (told table u r)
+told-same table {t} {u} {q} {r} e f = ap (λ x. numbers (told table x q)) e ∙ ap (λ x. numbers (told table u x)) f
+
 module _ (t : Table) (l : Log) where
-  pub line-decimal : (m : ℕ) → m < 64 → decimal m ++ numbers (ofModuleIn t l m) ≡ lineIn t l m
+  pub line-decimal : (m : ℕ) → m < 64 → decimal m ++ numbers (told t (moduleTimes l m) (ofModule l m)) ≡ lineIn t l m
   unfolding lineIn
-  line-decimal m h = ap (λ s. s ++ numbers (ofModuleIn t l m)) (sym (short-decimal m (omega arith)))
+  line-decimal m h = ap (λ s. s ++ numbers (told t (moduleTimes l m) (ofModule l m))) (sym (short-decimal m (omega arith)))
 
-  pub line-length : (m : ℕ) → m < 64 → length (lineIn t l m) ≡ length (decimal m) + length (numbers (ofModuleIn t l m))
-  line-length m h = sym (ap length (line-decimal m h)) ∙ length-append (decimal m) (numbers (ofModuleIn t l m))
+  pub line-length : (m : ℕ) → m < 64 → length (lineIn t l m) ≡ length (decimal m) + length (numbers (told t (moduleTimes l m) (ofModule l m)))
+  line-length m h = sym (ap length (line-decimal m h)) ∙ length-append (decimal m) (numbers (told t (moduleTimes l m) (ofModule l m)))
 
-  pub tool-length : length (toolIn t l) ≡ 4 + length (numbers (ofToolIn t l))
+  pub tool-length : length (toolIn t l) ≡ 4 + length (numbers (told t (toolTimes l) (ofTool l)))
   unfolding toolIn tool
-  tool-length = length-append tool (numbers (ofToolIn t l))
+  tool-length = length-append tool (numbers (told t (toolTimes l) (ofTool l)))
 
 -- ---- the longest table
 
@@ -57,14 +62,14 @@ five-below b q o h =
     (h, (up, (made, (actual, (omega (arith, o .effective-actual), tt)))))
 
 module _ (l : Log) (ok : Consistent l) where
-  of-module : (t : Table) (m : ℕ) → m < l .modules → length (numbers (ofModuleIn t l m)) ≤ 73
+  of-module : (t : Table) (m : ℕ) → m < l .modules → length (numbers (told t (moduleTimes l m) (ofModule l m))) ≤ 73
   of-module Times m h = numbers-longest 10 (timesOf (moduleTimes l m)) (each 0, (each 1, (each 2, (each 3, (each 4, (each 5, tt))))))
     where
       each : (k : ℕ) → timeIn l k m < 10 ^ 11
       each k = omega (arith, ok .short, ok .times k m h)
   of-module OfQuantities m h = omega (arith, numbers-longest 10 (quantitiesOf (ofModule l m)) (five-below (10 ^ 11) (ofModule l m) (ok .each m h) (omega (arith, ok .short))))
 
-  of-tool : (t : Table) → length (numbers (ofToolIn t l)) ≤ 85
+  of-tool : (t : Table) → length (numbers (told t (toolTimes l) (ofTool l))) ≤ 85
   of-tool Times = numbers-longest 12 (timesOf (toolTimes l)) (each 0, (each 1, (each 2, (each 3, (each 4, (each 5, tt))))))
     where
       each : (k : ℕ) → sumBelow (timeIn l k) (l .modules) < 10 ^ 13

@@ -3,11 +3,13 @@ use mathlib.Core.List.{List, _++_}
 use Prim.Native.Nat.{ℕ, _≤_}
 use lib.ListN.{length, getD}
 use Rattle.records.specs.Log.{Log}
+use Rattle.e79.specs.declared.Quantities.{Quantities}
+use Rattle.rules.specs.declared.StateTimes.{StateTimes}
 use Rattle.rules.specs.Quantities.{moduleTimes, toolTimes, ofModule, ofTool, timesOf, quantitiesOf}
 use Rattle.report.specs.Text.{ascii}
 use Rattle.report.specs.Report.{decimal, short, tool, joined, tableOf}
 use Rattle.printing.specs.declared.Table.{Table}
-use Rattle.printing.specs.declared.Table.the-variants.{Times, Quantities}
+use Rattle.printing.specs.declared.Table.the-variants.{Times, Quantities as OfQuantities}
 
 -- a space and a number
 unfoldable pub number : ℕ → List ℕ
@@ -22,25 +24,21 @@ numbers vs = joined (λ k. number (getD vs k 0)) (length vs) ++ ascii "\n"
 -- the first line
 unfoldable pub headingOf : Table → List ℕ
 headingOf Times = ascii "module productive standby engineering scheduled unscheduled nonscheduled\n"
-headingOf Quantities = ascii "module total uptime production actual effective\n"
+headingOf OfQuantities = ascii "module total uptime production actual effective\n"
 
--- what a table has of module m, and of the tool
-abbrev pub ofModuleIn : Table → Log → ℕ → List ℕ
-ofModuleIn Times l m = timesOf (moduleTimes l m)
-ofModuleIn Quantities l m = quantitiesOf (ofModule l m)
-
-abbrev pub ofToolIn : Table → Log → List ℕ
-ofToolIn Times l = timesOf (toolTimes l)
-ofToolIn Quantities l = quantitiesOf (ofTool l)
+-- what a table tells of a module or of the tool
+abbrev pub told : Table → StateTimes → Quantities → List ℕ
+told Times t q = timesOf t
+told OfQuantities t q = quantitiesOf q
 
 -- a module's line, by its number, and the tool's
 unfoldable pub lineIn : Table → Log → ℕ → List ℕ
 unfolding short numbers
-lineIn t l m = short m ++ numbers (ofModuleIn t l m)
+lineIn t l m = short m ++ numbers (told t (moduleTimes l m) (ofModule l m))
 
 unfoldable pub toolIn : Table → Log → List ℕ
 unfolding tool numbers
-toolIn t l = tool ++ numbers (ofToolIn t l)
+toolIn t l = tool ++ numbers (told t (toolTimes l) (ofTool l))
 
 -- the table of a log
 unfoldable pub tableText : Table → Log → List ℕ

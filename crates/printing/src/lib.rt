@@ -8,7 +8,7 @@ ghost use Rattle.rules.specs.Quantities.{timesOf, quantitiesOf};
 ghost use Rattle.report.specs.Report.{joined, Put, AtFront};
 ghost use Rattle.judging.specs.Working.{WorkingTotals, Consistent};
 ghost use Rattle.reporting.specs.Reports.{Prints};
-ghost use Rattle.printing.specs.Tables.{number, numbers, headingOf, ofModuleIn, ofToolIn, lineIn, toolIn, tableText};
+ghost use Rattle.printing.specs.Tables.{number, numbers, headingOf, told, lineIn, toolIn, tableText};
 ghost use Rattle.printing.specs.Words.{inWords};
 use e79::Quantities;
 use rules::StateTimes;
@@ -81,68 +81,14 @@ fn put_heading(buf: &mut [u8], table: Table) -> usize
     }
 }
 
-// The numbers of module m in a table. The caller owes the room.
-fn put_of_module<'a>(
-    buf: &mut [u8],
-    at: usize,
-    table: Table,
-    log: &[u8],
-    period: u64,
-    m: usize,
-    totals: &'a [u64; 384],
-    uptime: &'a [u64; 64],
-    actual: &'a [u64; 64],
-    effective: &'a [u64; 64],
-) -> usize
-    requires { ⌜ (m < decode (now log) .modules) × (m < 64) × (period ≡ decode (now log) .period) ⌝ }
-    requires { ⌜ WorkingTotals (decode (now log)) (now totals) (now uptime) (now actual) (now effective) ⌝ }
-    requires { ⌜ at + length (numbers (ofModuleIn table (decode (now log)) m)) ≤ length (now buf) ⌝ }
-    ensures { λ r. ⌜ Put (numbers (ofModuleIn table (decode (now (log .entry))) m)) (now (buf .entry)) at r (now (buf .exit)) ⌝ }
+// What a table tells, and the line's end. The caller owes the room.
+fn put_told(buf: &mut [u8], at: usize, table: Table, t: StateTimes, q: Quantities) -> usize
+    requires { ⌜ at + length (numbers (told table t q)) ≤ length (now buf) ⌝ }
+    ensures { λ r. ⌜ Put (numbers (told table t q)) (now (buf .entry)) at r (now (buf .exit)) ⌝ }
 {
     match table {
-        Table::Times => put_times(
-            buf,
-            at,
-            judging::times_of(log, m, totals, uptime, actual, effective),
-        ),
-        Table::Quantities => put_quantities(
-            buf,
-            at,
-            judging::quantities_of(log, period, m, totals, uptime, actual, effective),
-        ),
-    }
-}
-
-// The numbers of the tool in a table. The caller owes the room.
-fn put_of_tool<'a>(
-    buf: &mut [u8],
-    at: usize,
-    table: Table,
-    log: &[u8],
-    period: u64,
-    modules: usize,
-    totals: &'a [u64; 384],
-    uptime: &'a [u64; 64],
-    actual: &'a [u64; 64],
-    effective: &'a [u64; 64],
-) -> usize
-    requires { ⌜ (period ≡ decode (now log) .period) × (modules ≡ decode (now log) .modules) ⌝ }
-    requires { ⌜ WorkingTotals (decode (now log)) (now totals) (now uptime) (now actual) (now effective) ⌝ }
-    requires { ⌜ Consistent (decode (now log)) ⌝ }
-    requires { ⌜ at + length (numbers (ofToolIn table (decode (now log)))) ≤ length (now buf) ⌝ }
-    ensures { λ r. ⌜ Put (numbers (ofToolIn table (decode (now (log .entry))))) (now (buf .entry)) at r (now (buf .exit)) ⌝ }
-{
-    match table {
-        Table::Times => put_times(
-            buf,
-            at,
-            judging::tool_times(log, modules, totals, uptime, actual, effective),
-        ),
-        Table::Quantities => put_quantities(
-            buf,
-            at,
-            judging::tool_sums(log, period, modules, totals, uptime, actual, effective),
-        ),
+        Table::Times => put_times(buf, at, t),
+        Table::Quantities => put_quantities(buf, at, q),
     }
 }
 
@@ -165,18 +111,9 @@ fn put_line<'a>(
     ensures { λ r. ⌜ Put (lineIn table (decode (now (log .entry))) m) (now (buf .entry)) at r (now (buf .exit)) ⌝ }
 {
     let number = report::put_decimal(buf, at, m as u64);
-    put_of_module(
-        buf,
-        number,
-        table,
-        log,
-        period,
-        m,
-        totals,
-        uptime,
-        actual,
-        effective,
-    )
+    let t = judging::times_of(log, m, totals, uptime, actual, effective);
+    let q = judging::quantities_of(log, period, m, totals, uptime, actual, effective);
+    put_told(buf, number, table, t, q)
 }
 
 // The modules' lines. The caller owes the room.
@@ -235,18 +172,9 @@ fn put_tool_line<'a>(
     ensures { λ r. ⌜ Put (toolIn table (decode (now (log .entry)))) (now (buf .entry)) at r (now (buf .exit)) ⌝ }
 {
     let name = report::put_text(buf, at, b"tool");
-    put_of_tool(
-        buf,
-        name,
-        table,
-        log,
-        period,
-        modules,
-        totals,
-        uptime,
-        actual,
-        effective,
-    )
+    let t = judging::tool_times(log, modules, totals, uptime, actual, effective);
+    let q = judging::tool_sums(log, period, modules, totals, uptime, actual, effective);
+    put_told(buf, name, table, t, q)
 }
 
 // The whole table, put at the front of the buffer. The caller owes the room.
