@@ -2,7 +2,6 @@
 ghost use Prim.Native.Nat.{_≤_};
 ghost use lib.ListN.{length};
 use libc::STDERR_FILENO;
-use libc::STDIN_FILENO;
 use libc::STDOUT_FILENO;
 use parsing::Parsed;
 use tool_log::Table;
@@ -83,46 +82,17 @@ fn print(asked: Asked, name: &[u8], log: &[u8])
     print_words(name, log);
 }
 
-// Reads the log of this name. The longest takes 62,618 bytes: one byte more is enough to see that a log is too long. errno is 0 when it begins, and a read
-// that fails sets it.
-fn answer(asked: Asked, name: &[u8], fd: i32)
-    requires { ⌜ length (now name) ≤ 4096 ⌝ }
-{
-    let mut input = [0u8; 62619];
-    let n = io::read_full(fd, &mut input);
-    if os::errno() != 0 {
-        saying::fail(name);
-        return;
-    }
-    print(asked, name, &input[..n]);
-}
-
-// The log is the file that argument 2 names, or standard input.
-fn answer_named(asked: Asked) {
+// The longest log takes 62,618 bytes: one byte more is enough to see that a log is too long.
+fn answer(asked: Asked) {
     if has_too_many(3) {
         return;
     }
-    if os::arg_count() < 3 {
-        answer(asked, b"standard input", STDIN_FILENO);
-        return;
-    }
     let mut name = io::buffer();
-    let n = os::arg(2, &mut name);
-    if os::errno() != 0 {
-        saying::fail(&name);
-        return;
+    let mut input = [0u8; 62619];
+    let named = reading::read_log(2, &mut name, &mut input);
+    if named.is_read {
+        print(asked, &name[..named.name], &input[..named.size]);
     }
-    if check::same(&name[..n], b"-") {
-        answer(asked, b"standard input", STDIN_FILENO);
-        return;
-    }
-    let fd = os::open_read(&name[..n]);
-    if fd < 0 {
-        saying::fail(&name[..n]);
-        return;
-    }
-    answer(asked, &name[..n], fd);
-    libc::close(fd);
 }
 
 // ---- what a refusal means
@@ -170,11 +140,11 @@ fn explain() {
 
 fn run(word: &[u8]) {
     if check::same(word, b"report") {
-        answer_named(Asked::Report);
+        answer(Asked::Report);
     } else if check::same(word, b"times") {
-        answer_named(Asked::Times);
+        answer(Asked::Times);
     } else if check::same(word, b"quantities") {
-        answer_named(Asked::Quantities);
+        answer(Asked::Quantities);
     } else if check::same(word, b"explain") {
         explain();
     } else if check::same(word, b"help") {
