@@ -44,6 +44,55 @@ fn expected_output() {
     assert_eq!(samples, 22);
 }
 
+/// The tables that `toollog` has to print of each accepted sample.
+#[test]
+fn expected_tables() {
+    let mut tables = 0;
+    for entry in fs::read_dir(folder().join("toollog")).expect("the tables") {
+        let path = entry.expect("an entry").path();
+        let name = path
+            .file_stem()
+            .and_then(|name| name.to_str())
+            .expect("a name");
+        let expected = || fs::read(&path).expect("its bytes");
+        match path.extension().and_then(|extension| extension.to_str()) {
+            Some("times") => {
+                assert_eq!(account(&log(name)).unwrap().times(), expected(), "{path:?}")
+            }
+            Some("quantities") => {
+                assert_eq!(
+                    account(&log(name)).unwrap().quantities(),
+                    expected(),
+                    "{path:?}"
+                )
+            }
+            _ => continue,
+        }
+        tables += 1;
+    }
+    assert_eq!(tables, 14);
+}
+
+/// 002, R1-2: the hours of module B and of the tool, in ms.
+#[test]
+fn hours_of_002() {
+    let times = String::from_utf8(account(&log("r1-2")).unwrap().times()).expect("text");
+    let lines: Vec<&str> = times.lines().collect();
+    let hours = |hours: [f64; 6]| {
+        hours
+            .map(|h| (h * 3_600_000.0).round().to_string())
+            .join(" ")
+    };
+    assert_eq!(
+        lines[2],
+        format!("1 {}", hours([148.0, 5.0, 5.0, 5.0, 5.0, 0.0]))
+    );
+    assert_eq!(
+        lines[4],
+        format!("tool {}", hours([378.0, 103.0, 8.0, 5.0, 10.0, 0.0]))
+    );
+}
+
 /// 002, R1-1 and R1-2, as printed there.
 #[test]
 fn printed_figures_of_002() {

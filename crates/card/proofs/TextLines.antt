@@ -12,7 +12,7 @@ use Rattle.card.specs.Fields.{asLines, firstLine, behindLine, behindLine
 
 -- ---- the byte found from a position on
 
-pub slice-all : (from : ℕ) (s : List ℕ) → slice from (length s) s ≡ drop from s
+slice-all : (from : ℕ) (s : List ℕ) → slice from (length s) s ≡ drop from s
 unfolding slice
 slice-all from s = rw take-length
 

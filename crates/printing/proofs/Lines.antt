@@ -1,6 +1,6 @@
 -- A table has two lines more than the modules, each line ends in byte 10 and has no other inside, and the last begins `tool`. Assumes nothing.
 use mathlib.Core.Path.{_≡_, refl}
-use mathlib.Core.List.{List, _++_}
+use mathlib.Core.List.{List}
 use Prim.Native.Nat.{ℕ, zero, suc, _+_}
 use lib.ListN.{length, getD}
 use Rattle.records.specs.Log.{Log}

@@ -1,6 +1,6 @@
 -- The tables of state times and of quantities, as bytes. Definitions only.
 use mathlib.Core.List.{List, _++_}
-use Prim.Native.Nat.{ℕ, _≤_}
+use Prim.Native.Nat.{ℕ}
 use lib.ListN.{length, getD}
 use Rattle.records.specs.Log.{Log}
 use Rattle.e79.specs.declared.Quantities.{Quantities}

@@ -17,7 +17,7 @@ use Rattle.e79.specs.declared.Printed.the-variants.{Figure, NoBase}
 use Rattle.report.specs.Text.{ascii}
 use Rattle.report.proofs.Decimals.{decimal-below, decimal-more}
 use Rattle.report.specs.Lines.{ends, Line, Lines, none, more, LastLine}
-use Rattle.report.specs.Report.{digit, decimal, short, places, shown, figure, figures, heading, tool, moduleLine, toolLine, joined, tableOf, moduleLines, reportOf}
+use Rattle.report.specs.Report.{digit, decimal, short, places, shown, figure, figures, heading, tool, moduleLine, toolLine, joined, tableOf, reportOf}
 
 -- ---- line ends of texts put together
 ends-append : (s t : List ℕ) → ends (s ++ t) ≡ ends s + ends t

@@ -14,7 +14,7 @@ module _ (line : ℕ → List ℕ) where
   unfolding joined
   lines-none = refl
 
-  pub lines-more : (m : ℕ) → joined line (m + 1) ≡ joined line m ++ line m
+  lines-more : (m : ℕ) → joined line (m + 1) ≡ joined line m ++ line m
   unfolding joined
   lines-more m = rw (add-one m)
 

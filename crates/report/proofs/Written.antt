@@ -10,7 +10,7 @@ use lib.Seq.{paste, paste-zero, paste-suc, take-length, length-paste, drop-paste
 use Rattle.report.specs.Report.{written, Put, AtFront}
 
 -- a whole text pasted in
-pub written-paste : (s : List ℕ) (at : ℕ) (xs : List ℕ) → written s at xs ≡ paste s at xs (length xs)
+written-paste : (s : List ℕ) (at : ℕ) (xs : List ℕ) → written s at xs ≡ paste s at xs (length xs)
 unfolding written
 written-paste s at xs = rw (take-length, append-assoc)
 
@@ -59,7 +59,7 @@ pub read-as : {xs ys s t : List ℕ} {at r : ℕ} → xs ≡ ys → Put xs s at 
 read-as e p = rw e at p
 
 -- a text at the front
-pub fronted : {text : List ℕ} {most : ℕ} {before : List ℕ} {r : ℕ} {after : List ℕ} → r ≡ length text → after ≡ text ++ drop r before → r ≤ most → AtFront text most before r after
+fronted : {text : List ℕ} {most : ℕ} {before : List ℕ} {r : ℕ} {after : List ℕ} → r ≡ length text → after ≡ text ++ drop r before → r ≤ most → AtFront text most before r after
 fronted {text} {most} {before} {r} {after} size bytes longest =
     let within : r ≤ length after = rw bytes (omega (arith, size, length-append text (drop r before))) in
     record { size = size; bytes = bytes; longest = longest; within = within; part = sym (length-take-le r after within) }

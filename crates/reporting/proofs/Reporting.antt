@@ -5,7 +5,7 @@ use mathlib.Core.List.{List, [], _++_}
 use Prim.Native.Nat.{ℕ, _+_, _≤_, _<_}
 use native.Mathlib.Nat.{zero-add}
 use native.Mathlib.Omega.{arith}
-use lib.ListN.{length, take, drop, length-append}
+use lib.ListN.{length, take, drop}
 use lib.Dec.{ltb}
 use lib.Seq.{take-append-seam}
 use borrow.Author.Tests.{lt-ltb, le-ltb}

@@ -1,6 +1,5 @@
 -- `saying::put_shown` meets its contract: after i turns the first i bytes are copied as they are shown. Assumes nothing.
 use borrow.Author.Needs.{needs}
-use mathlib.Core.Path.{refl}
 use Prim.Native.Nat.{_-_}
 use mathlib.Core.List.{map}
 use native.Mathlib.Omega.{arith}
