@@ -17,11 +17,11 @@ fn read_open(fd: i32, name: usize, input: &mut [u8]) -> Named
     ensures { λ r. ⌜ r .name ≡ name ⌝ }
     ensures { λ r. ⌜ Counts (r .size) (now (input .exit)) ⌝ }
 {
-    let size = io::read_full(fd, input);
+    let got = io::read_full(fd, input);
     Named {
         is_read: os::errno() == 0,
         name,
-        size,
+        size: got,
     }
 }
 

@@ -1,4 +1,4 @@
-// A file written whole or not at all.
+// A file written whole or not at all. No contract can speak of a file: what `replace` does to one is tried by the program `keep` in samples/check-saving.
 ghost use mathlib.Core.Path.{_≡_};
 ghost use Prim.Native.Nat.{min};
 ghost use Rattle.report.specs.Report.{AtFront};

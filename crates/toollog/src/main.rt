@@ -12,7 +12,7 @@ fn help(fd: i32) {
         b"\
 toollog report [LOG]       the four efficiencies and OEE of each module and of the tool\n\
 toollog times [LOG]        their six state times, in ms\n\
-toollog quantities [LOG]   their total time, uptime, production time, and theoretical times for actual and effective units, in ms\n\
+toollog quantities [LOG]   their total time, uptime, production time and theoretical times, in ms\n\
 toollog explain N          what refusal N means, and what to look for\n\
 toollog help               this text\n\
 \n\
