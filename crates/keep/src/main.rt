@@ -2,6 +2,7 @@
 // `saving` is tried with.
 use libc::STDIN_FILENO;
 use libc::STDOUT_FILENO;
+use saving::Replaced;
 
 // Writes out the file.
 fn show(path: &[u8]) {
@@ -16,11 +17,21 @@ fn show(path: &[u8]) {
     io::write_all(STDOUT_FILENO, &space[..n]);
 }
 
+// Says why the new file could not be written.
+fn blame_new(path: &[u8]) {
+    let mut name = [0u8; 4200];
+    let n = saving::put_name(path, &mut name);
+    os::fail(&name[..n]);
+}
+
 fn keep(path: &[u8]) {
     let mut input = io::large_buffer();
     let n = io::read_full(STDIN_FILENO, &mut input);
-    if !saving::replace(path, &input[..n]) {
-        os::fail(path);
+    let replaced = saving::replace(path, &input[..n]);
+    match replaced {
+        Replaced::Done => {}
+        Replaced::NotWritten => blame_new(path),
+        Replaced::NotRenamed => os::fail(path),
     }
     show(path);
 }

@@ -11,7 +11,7 @@ fn least(a: usize, b: usize) -> usize
 }
 
 // Writes the name of the new file: the path and `.new` behind it.
-fn put_name(path: &[u8], name: &mut [u8; 4200]) -> usize
+pub fn put_name(path: &[u8], name: &mut [u8; 4200]) -> usize
     ensures { λ r. ⌜ AtFront (newName (now (path .entry))) 4200 (now (name .entry)) r (now (name .exit)) ⌝ }
 {
     let n = report::put_text(name, 0, &path[..least(path.len(), 4196)]);
@@ -25,19 +25,30 @@ fn fill(fd: i32, bytes: &[u8]) -> bool {
     kept && closed
 }
 
-// Writes the bytes to a new file beside the one that the path names, and renames it into place once all of them are kept. Where it answers false the path
-// names what it named before, the new file is gone, and errno says why; a new file that is there already, left by a run that was cut off, is such a
-// reason.
-pub fn replace(path: &[u8], bytes: &[u8]) -> bool {
+// What became of a replacement. Where it is not done, errno says why, and it is the file of `put_name` that could not be written, or the one of the path
+// itself that could not be replaced.
+pub enum Replaced {
+    Done,
+    NotWritten,
+    NotRenamed,
+}
+
+// Writes the bytes to a new file beside the one that the path names, and renames it into place once all of them are kept. Where that is not done the path
+// names what it named before, and the new file is gone. A new file that is there already, left by a run that was cut off, stays and is not written over.
+pub fn replace(path: &[u8], bytes: &[u8]) -> Replaced {
     let mut name = [0u8; 4200];
     let n = put_name(path, &mut name);
     let fd = os::create(&name[..n]);
     if fd < 0 {
-        return false;
+        return Replaced::NotWritten;
     }
-    if fill(fd, bytes) && os::rename(&name[..n], path) == 0 {
-        return true;
+    if !fill(fd, bytes) {
+        os::unlink(&name[..n]);
+        return Replaced::NotWritten;
     }
-    os::unlink(&name[..n]);
-    false
+    if os::rename(&name[..n], path) != 0 {
+        os::unlink(&name[..n]);
+        return Replaced::NotRenamed;
+    }
+    Replaced::Done
 }
