@@ -2,6 +2,7 @@
 -- Assumes nothing.
 use mathlib.Core.Path.{_≡_, refl}
 use mathlib.Core.Bool.{Bool, true, false, _&&_, _||_}
+use mathlib.Core.Logic.{_⊎_, inl, inr}
 use Prim.Native.Nat.{ℕ}
 use native.Mathlib.Omega.{arith}
 
@@ -19,3 +20,26 @@ both-true a b p q = rw (p, q)
 pub right-false : (a b : Bool) → b ≡ false → a && b ≡ false
 right-false true b q = q
 right-false false b q = refl
+
+pub false-true : false ≡ true → ⊥
+false-true e = let z : _≡_ {A = ℕ} 0 1 = cc in omega arith
+
+pub both : (a b : Bool) → a && b ≡ true → (a ≡ true) × (b ≡ true)
+both true b e = (refl, e)
+both false b e = absurd (false-true e)
+
+pub either : (a b : Bool) → a || b ≡ true → (a ≡ true) ⊎ (b ≡ true)
+either true b e = inl refl
+either false b e = inr e
+
+pub or-true : (a b : Bool) → b ≡ true → a || b ≡ true
+or-true true b e = refl
+or-true false b e = e
+
+pub and-true : (a : Bool) → a && true ≡ true && a
+and-true true = refl
+and-true false = refl
+
+pub and-assoc : (a b c : Bool) → a && (b && c) ≡ (a && b) && c
+and-assoc true b c = refl
+and-assoc false b c = refl

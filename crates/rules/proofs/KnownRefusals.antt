@@ -15,7 +15,8 @@ use Rattle.rules.specs.declared.Refusal.{Refusal}
 use Rattle.rules.specs.declared.Verdict.{Verdict}
 use Rattle.rules.specs.declared.Verdict.the-variants.{Accepted, Refused}
 use Rattle.rules.specs.Grounds.{ground, _then_, firstOf, inTurn}
-use Rattle.rules.specs.RecordGrounds.{lastTime, ownTime, isBefore, isNotAfter, stateGround, firstTime, isOpening, openingGround, stateGrounds, isAmong, isNone, standardGround, standardGrounds, unitGround, unitGrounds}
+use Rattle.rules.specs.RecordGrounds.{ownTime, isNotAfter, stateGround, firstTime, isOpening, openingGround, stateGrounds, isAmong, isNone, standardGround, standardGrounds, unitGround, unitGrounds}
+use Rattle.rules.specs.Sequence.{justBefore, isAfter, stateKey, standardKey, unitKey}
 use Rattle.rules.specs.Theoretical.{inForce}
 use Rattle.rules.specs.Quantities.{timeIn, actualTime, ofTool, toolTimes}
 use Rattle.rules.specs.Verdict.{badPeriod, badModules, badCounts, badLength, headerGrounds, fastGround, anyOver, anyTimeOver, sumGrounds, recordGrounds, verdict}
@@ -73,7 +74,7 @@ known-state period modules earlier i r =
     and ruled 7 1 i (leb modules (r .«module»)) tt
     and ruled 8 1 i (ltb 23 (r .code)) tt
     and ruled 9 1 i (leb period (r .time)) tt
-    and ruled 10 1 i (isBefore (r .time) (lastTime earlier) || isNotAfter (r .time) (ownTime (r .«module») earlier)) tt
+    and ruled 10 1 i (not (isAfter stateKey (justBefore earlier) r) || isNotAfter (r .time) (ownTime (r .«module») earlier)) tt
 
 known-states : (period modules : ℕ) (rs : List StateRecord) → AllKnown logRefusals (stateGrounds period modules rs)
 unfolding stateGrounds openingGround
@@ -87,6 +88,7 @@ known-standard period earlier i s =
     ruled 9 2 i (leb period (s .start)) tt
     and ruled 12 2 i (eqb (s .theoretical) 0) tt
     and ruled 13 2 i (isAmong s earlier) tt
+    and ruled 19 2 i (not (isAfter standardKey (justBefore earlier) s)) tt
 
 known-unit : (period modules : ℕ) (ss : List Standard) (earlier : List UnitRecord) (i : ℕ) (u : UnitRecord) → AllKnown logRefusals (unitGround period modules ss earlier i u)
 unfolding unitGround
@@ -96,6 +98,7 @@ known-unit period modules ss earlier i u =
     and ruled 9 3 i (leb period (u .time)) tt
     and ruled 14 3 i (ltb (u .actual) (u .effective)) tt
     and ruled 15 3 i (isNone (inForce ss (u .recipe) (u .time))) tt
+    and ruled 19 3 i (not (isAfter unitKey (justBefore earlier) u)) tt
 
 known-records : (l : Log) → AllKnown logRefusals (recordGrounds l)
 unfolding recordGrounds standardGrounds unitGrounds sumGrounds fastGround

@@ -3,3 +3,8 @@ pub mod FirstGround
 pub mod InForce
 pub mod KnownRefusals
 pub mod Latest
+pub mod Sequence
+pub mod Keys
+pub mod Spared
+pub mod Risen
+pub mod SameBytes

@@ -2,7 +2,10 @@ pub mod Names
 pub mod Grounds
 pub mod Time
 pub mod Theoretical
+pub mod Sequence
+pub mod Keys
 pub mod RecordGrounds
 pub mod Quantities
 pub mod Verdict
 pub mod Refusals
+pub mod SameRecords

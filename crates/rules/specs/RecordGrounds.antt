@@ -1,4 +1,4 @@
--- When a log is turned back for its records: grounds 6 to 15, in their sequence.
+-- When a log is turned back for its records: grounds 6 to 15 and 19, in their sequence.
 -- Definitions only.
 use Prim.Native.Nat.{ℕ}
 use mathlib.Core.List.{List, [], _∷_, foldl}
@@ -11,34 +11,28 @@ use Rattle.records.specs.declared.UnitRecord.{UnitRecord}
 use Rattle.rules.specs.declared.Verdict.{Verdict}
 use Rattle.rules.specs.Grounds.{ground, _then_, firstOf, eachOf, inTurn}
 use Rattle.rules.specs.Names.{noList, ofStates, ofStandards, ofUnits}
+use Rattle.rules.specs.Sequence.{justBefore, isBelow, isAfter, stateKey, standardKey, unitKey}
 use Rattle.rules.specs.Theoretical.{inForce}
 
 -- ---- the state records
 
--- the time of the last record, and of module m's last record
-unfoldable pub lastTime : List StateRecord → Option ℕ
-lastTime rs = foldl (λ t r. some (r .time)) none rs
-
+-- the time of module m's last record
 unfoldable pub ownTime : ℕ → List StateRecord → Option ℕ
 ownTime m rs = foldl (λ t r. cond (eqb (r .«module») m) (some (r .time)) t) none rs
 
--- t is before a time, or at it or before, where there is one
-abbrev pub isBefore : ℕ → Option ℕ → Bool
-isBefore t none = false
-isBefore t (some u) = ltb t u
-
+-- t is at a time or before it, where there is one
 abbrev pub isNotAfter : ℕ → Option ℕ → Bool
 isNotAfter t none = false
 isNotAfter t (some u) = leb t u
 
 unfoldable pub stateGround : ℕ → ℕ → List StateRecord → ℕ → StateRecord → Verdict
-unfolding lastTime ownTime
+unfolding justBefore isBelow ownTime
 stateGround period modules earlier i r =
     ground 6 ofStates i (not (eqb (r .spare) 0))
     then ground 7 ofStates i (leb modules (r .«module»))
     then ground 8 ofStates i (ltb 23 (r .code))
     then ground 9 ofStates i (leb period (r .time))
-    then ground 10 ofStates i (isBefore (r .time) (lastTime earlier) || isNotAfter (r .time) (ownTime (r .«module») earlier))
+    then ground 10 ofStates i (not (isAfter stateKey (justBefore earlier) r) || isNotAfter (r .time) (ownTime (r .«module») earlier))
 
 -- the time of module m's first record
 unfoldable pub firstTime : ℕ → List StateRecord → Option ℕ
@@ -67,10 +61,12 @@ isAmong s [] = false
 isAmong s (e ∷ es) = (eqb (s .recipe) (e .recipe) && eqb (s .start) (e .start)) || isAmong s es
 
 unfoldable pub standardGround : ℕ → List Standard → ℕ → Standard → Verdict
+unfolding justBefore isBelow
 standardGround period earlier i s =
     ground 9 ofStandards i (leb period (s .start))
     then ground 12 ofStandards i (eqb (s .theoretical) 0)
     then ground 13 ofStandards i (isAmong s earlier)
+    then ground 19 ofStandards i (not (isAfter standardKey (justBefore earlier) s))
 
 unfoldable pub standardGrounds : ℕ → List Standard → Verdict
 unfolding standardGround inTurn
@@ -83,13 +79,14 @@ isNone none = true
 isNone (some s) = false
 
 unfoldable pub unitGround : ℕ → ℕ → List Standard → List UnitRecord → ℕ → UnitRecord → Verdict
-unfolding inForce
+unfolding inForce justBefore isBelow
 unitGround period modules ss earlier i u =
     ground 6 ofUnits i (not (eqb (u .spare) 0))
     then ground 7 ofUnits i (leb modules (u .«module»))
     then ground 9 ofUnits i (leb period (u .time))
     then ground 14 ofUnits i (ltb (u .actual) (u .effective))
     then ground 15 ofUnits i (isNone (inForce ss (u .recipe) (u .time)))
+    then ground 19 ofUnits i (not (isAfter unitKey (justBefore earlier) u))
 
 unfoldable pub unitGrounds : ℕ → ℕ → List Standard → List UnitRecord → Verdict
 unfolding unitGround inTurn

@@ -1,4 +1,4 @@
--- Document 01's table of refusals: which list comes with which number.
+-- The table of refusals, document 01's with R-1's 19: which list comes with which number.
 -- Definitions only.
 use Prim.Native.Nat.{ℕ}
 use mathlib.Core.Bool.{Bool, false, _&&_, _||_}
@@ -17,13 +17,13 @@ pub record Row : Type 0 where
 abbrev pub row : ℕ → ℕ → Row
 row number list = record { number = number; list = list }
 
--- the numbers 1 to 17, each with its lists
+-- the numbers 1 to 17 and 19, each with its lists
 abbrev pub logRefusals : List Row
 logRefusals =
     row 1 noList ∷ row 2 noList ∷ row 3 noList ∷ row 4 noList ∷ row 5 noList
     ∷ row 6 ofStates ∷ row 7 ofStates ∷ row 8 ofStates ∷ row 9 ofStates ∷ row 10 ofStates ∷ row 11 noList
-    ∷ row 9 ofStandards ∷ row 12 ofStandards ∷ row 13 ofStandards
-    ∷ row 6 ofUnits ∷ row 7 ofUnits ∷ row 9 ofUnits ∷ row 14 ofUnits ∷ row 15 ofUnits
+    ∷ row 9 ofStandards ∷ row 12 ofStandards ∷ row 13 ofStandards ∷ row 19 ofStandards
+    ∷ row 6 ofUnits ∷ row 7 ofUnits ∷ row 9 ofUnits ∷ row 14 ofUnits ∷ row 15 ofUnits ∷ row 19 ofUnits
     ∷ row 16 noList ∷ row 17 noList ∷ []
 
 abbrev pub isRow : List Row → ℕ → ℕ → Bool
@@ -34,7 +34,7 @@ isRow (r ∷ rs) n l = (eqb n (r .number) && eqb l (r .list)) || isRow rs n l
 abbrev pub Known : List Row → Refusal → Type 0
 Known rows x = T (isRow rows (x .number) (x .list))
 
--- a refusal of the log of these bytes, with a number from 1 to 17 and the list that document 01 gives it
+-- a refusal of the log of these bytes, with a number and a list of the table
 pub record OfLog (s : List ℕ) (x : Refusal) : Type 0 where
   pub met : verdict s ≡ Refused x
   pub known : Known logRefusals x
