@@ -1,19 +1,18 @@
 -- What an accepted log has: its length is that of its header, and each of its lists is in its rising sequence.
 -- Assumes nothing.
-use mathlib.Core.Path.{_≡_, refl, sym, ap, _∙_}
-use mathlib.Core.Bool.{Bool, true, false, _&&_, _||_, not}
-use mathlib.Core.Option.{Option, none, some}
+use mathlib.Core.Path.{_≡_, refl}
+use mathlib.Core.Bool.{true, _||_, not}
 use mathlib.Core.List.{List, [], _∷_, _++_}
-use Prim.Native.Nat.{ℕ, zero, suc, _+_, _*_, _≤_, _<_}
+use Prim.Native.Nat.{ℕ, suc, _+_, _*_}
 use lib.ListN.{length}
 use lib.Dec.{leb, ltb, eqb}
 use borrow.Author.Tests.{eqb-true, not-false}
-use Rattle.records.specs.Log.{Log, headerOf, decode}
+use Rattle.records.specs.Log.{headerOf, decode}
 use Rattle.records.specs.declared.StateRecord.{StateRecord}
 use Rattle.records.specs.declared.Standard.{Standard}
 use Rattle.records.specs.declared.UnitRecord.{UnitRecord}
 use Rattle.rules.specs.declared.Verdict.{Verdict}
-use Rattle.rules.specs.declared.Verdict.the-variants.{Accepted, Refused}
+use Rattle.rules.specs.declared.Verdict.the-variants.{Accepted}
 use Rattle.rules.specs.Grounds.{ground, _then_, firstOf, inTurn}
 use Rattle.rules.specs.Sequence.{justBefore, isAfter, isRisingAfter, isRising, stateKey, standardKey, unitKey, Risen}
 use Rattle.rules.specs.Theoretical.{inForce}

@@ -4,18 +4,13 @@
 use mathlib.Core.Path.{_≡_, refl, sym, ap, _∙_}
 use mathlib.Core.List.{List}
 use Prim.Native.Nat.{ℕ}
-use Rattle.records.specs.declared.Header.{Header}
-use Rattle.records.specs.declared.StateRecord.{StateRecord}
-use Rattle.records.specs.declared.Standard.{Standard}
-use Rattle.records.specs.declared.UnitRecord.{UnitRecord}
-use Rattle.records.specs.Log.{Log, headerOf, decode}
+use Rattle.records.specs.Log.{headerOf, decode}
 use Rattle.records.specs.Encode.{encode}
 use Rattle.records.proofs.RoundTrip.{encode-decode}
-use Rattle.rules.specs.declared.Verdict.{Verdict}
 use Rattle.rules.specs.declared.Verdict.the-variants.{Accepted}
 use Rattle.rules.specs.Sequence.{stateKey, standardKey, unitKey}
 use Rattle.rules.specs.Verdict.{verdict}
-use Rattle.rules.specs.SameRecords.{Bytes, SameRecords, SameBytes}
+use Rattle.rules.specs.SameRecords.{SameRecords, SameBytes}
 use Rattle.rules.proofs.Sequence.{same-rising}
 use Rattle.rules.proofs.Risen.{risen, whole-length}
 

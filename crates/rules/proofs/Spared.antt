@@ -1,17 +1,17 @@
 -- What the rising sequence spares a pass over a list: where the records so far rise and one is after the last of them, it is later than its own module's last,
 -- and its recipe and start are no earlier standard's. So one comparison decides, and only a record that breaks the sequence needs a search for 13.
 -- Assumes nothing.
-use mathlib.Core.Path.{_≡_, refl, sym, ap, _∙_}
+use mathlib.Core.Path.{_≡_, refl, sym}
 use mathlib.Core.Bool.{Bool, true, false, _&&_, _||_, cond}
 use mathlib.Core.Option.{Option, none, some}
 use mathlib.Core.List.{List, [], _∷_, foldl}
-use Prim.Native.Nat.{ℕ, _≤_, _<_}
+use Prim.Native.Nat.{ℕ}
 use native.Mathlib.Omega.{arith}
-use lib.Dec.{leb, eqb}
+use lib.Dec.{eqb}
 use borrow.Author.Tests.{eqb-true, lt-leb}
 use Rattle.records.specs.declared.StateRecord.{StateRecord}
 use Rattle.records.specs.declared.Standard.{Standard}
-use Rattle.rules.specs.Sequence.{justBefore, isBelow, isAfter, isRising, stateKey, standardKey}
+use Rattle.rules.specs.Sequence.{justBefore, isAfter, isRising, stateKey, standardKey}
 use Rattle.rules.specs.RecordGrounds.{ownTime, isNotAfter, isAmong}
 use Rattle.rules.proofs.Booleans.{both}
 use Rattle.rules.proofs.Sequence.{AllBelow, rising-below, time-above, start-above}

@@ -1,7 +1,7 @@
 -- For passes over a list: a record's key as one number, and what is kept of the records so far to test the next one's sequence by one comparison.
 -- Definitions only.
 use mathlib.Core.Path.{_≡_}
-use mathlib.Core.Bool.{Bool, true}
+use mathlib.Core.Bool.{true}
 use mathlib.Core.List.{List}
 use Prim.Native.Nat.{ℕ, _+_, _*_, _^_, _<_}
 use lib.Dec.{leb}

@@ -9,7 +9,7 @@ use lib.Dec.{eqb}
 use borrow.Author.Tests.{eq-eqb, ne-eqb, le-leb, lt-leb}
 use Rattle.records.specs.declared.StateRecord.{StateRecord}
 use Rattle.rules.specs.Time.{keep, codeAt, isState, stateTime}
-use Rattle.rules.specs.RecordGrounds.{lastTime, ownTime, firstTime}
+use Rattle.rules.specs.RecordGrounds.{ownTime, firstTime}
 use Rattle.states.proofs.Count.{count-agree}
 
 -- a first time stays, and where there is none the next list's counts
@@ -39,10 +39,6 @@ module _ (rs : List StateRecord) (r : StateRecord) where
   first-more : (m : ℕ) → firstTime m (rs ++ (r ∷ [])) ≡ otherwise (firstTime m rs) (cond (eqb (r .«module») m) (some (r .time)) none)
   unfolding firstTime
   first-more m = first-append m rs (r ∷ [])
-
-  pub last-more : lastTime (rs ++ (r ∷ [])) ≡ some (r .time)
-  unfolding lastTime
-  last-more = foldl-append (λ t r. some (r .time)) none rs (r ∷ [])
 
   -- before the record's time every module's code is as it was
   pub code-before : (m t : ℕ) → t < r .time → codeAt (rs ++ (r ∷ [])) m t ≡ codeAt rs m t

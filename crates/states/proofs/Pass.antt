@@ -5,36 +5,31 @@ use mathlib.Core.Path.{_≡_, refl, sym, _∙_}
 use mathlib.Core.Bool.{Bool, true, false}
 use mathlib.Core.Option.{none, some, IsSome}
 use mathlib.Core.List.{List, [], _∷_, _++_}
-use Prim.Native.Nat.{ℕ, _+_, _-_, _*_, _/_, _%_, _^_, _≤_, _<_}
+use Prim.Native.Nat.{ℕ, _+_, _-_, _*_, _/_, _%_, _≤_, _<_}
 use native.Mathlib.Omega.{arith}
 use native.Mathlib.Decide.{ℕ-discrete}
 use lib.Dec.{eqb, lit<}
 use lib.ListN.{getD, set, length, length-set, replicate, length-replicate, getD-replicate}
 use lib.Seq.{getD-set-same, getD-set-other}
-use Rattle.bits.proofs.Fields.{field-lt}
 use Rattle.records.specs.declared.StateRecord.{StateRecord}
-use Rattle.records.specs.Fields.{stateFrom}
 use Rattle.records.specs.Log.{stateAt, upTo}
 use Rattle.rules.specs.declared.Verdict.the-variants.{Accepted}
 use Rattle.rules.specs.Grounds.{ground, firstOf, eachOf}
 use Rattle.rules.specs.Time.{stateOf, codeAt, isState, count, stateTime}
+use Rattle.records.proofs.Widths.{state-fits}
+use Rattle.rules.specs.Keys.{StateFits}
 use Rattle.rules.specs.RecordGrounds.{ownTime, firstTime, isOpening, stateGround, openingGround, stateGrounds}
 use Rattle.rules.proofs.FirstGround.{first-none, first-more, first-stop}
 use Rattle.states.specs.Tally.{Tallied}
-use Rattle.states.specs.Held.{nextOf, totalsWith, uptimeIn, Unseen, Open, Stretch, fresh, running, Sums, Module, Modules, Held}
+use Rattle.states.specs.Held.{totalsWith, uptimeIn, Unseen, Open, Stretch, fresh, running, Sums, Module, Modules, Held}
 use Rattle.states.proofs.OneMore.{code-from, time-before, own-time, first-new, first-stays, code-other, time-other, own-other, first-other}
-use Rattle.states.proofs.Sound.{Sound}
+use Rattle.states.proofs.Sound.{nextOf, Sound}
 use Rattle.states.proofs.Table.{state-low}
 use Rattle.states.proofs.Sums.{Runs, grows, sums-as, sums-own, sums-other, total-length, uptime-sum}
 
 -- a record's module and time by their widths
-pub module-low : (s : List ℕ) (i : ℕ) → stateAt s i .«module» < 64
-unfolding stateFrom
-module-low s i = field-lt s (80 + 48 * i) 6
-
-pub time-low : (s : List ℕ) (i : ℕ) → stateAt s i .time < 2 ^ 35
-unfolding stateFrom
-time-low s i = field-lt s (80 + 48 * i + 11) 35
+pub fits-fields : (s : List ℕ) (i : ℕ) → StateFits (stateAt s i)
+fits-fields s i = let f = state-fits s (80 + 48 * i) in (f .0, f .1 .1 .0)
 
 -- ---- a module's word
 
@@ -48,8 +43,8 @@ module _ (n s : ℕ) (low : s < 6) where
 -- ---- what is known of a module
 
 module _ {rs : List StateRecord} {m n s : ℕ} {o : Bool} where
-  -- the least time that its next record may have, as test 10 reads it
-  pub next-own : Stretch rs m n s o → n ≡ nextOf (ownTime m rs)
+  -- the least time that its next record may have
+  next-own : Stretch rs m n s o → n ≡ nextOf (ownTime m rs)
   next-own (fresh k) = rw (k .own) (k .next)
   next-own (running k) = rw (k .own) (omega (arith, k .next))
 

@@ -1,26 +1,31 @@
--- What is known of a record that passes its tests, and how the least times that the pass keeps give test 10.
+-- What is known of a record that passes its tests.
 -- Assumes nothing.
-use mathlib.Core.Path.{_≡_, refl, sym, _∙_}
+use mathlib.Core.Path.{_≡_, sym, _∙_}
 use mathlib.Core.Bool.{not}
 use mathlib.Core.Option.{Option, none, some}
 use mathlib.Core.List.{List}
-use Prim.Native.Nat.{ℕ, _≤_, _<_, zero-le}
+use Prim.Native.Nat.{ℕ, suc, _≤_, _<_, zero-le}
 use native.Mathlib.Omega.{arith}
 use lib.Dec.{eqb, leb, ltb, leb·suc-suc}
 use borrow.Author.Tests.{le-ltb, leb-false, ltb-false}
 use Rattle.records.specs.declared.StateRecord.{StateRecord}
 use Rattle.rules.specs.declared.Verdict.the-variants.{Accepted}
 use Rattle.rules.specs.Grounds.{ground}
-use Rattle.rules.specs.RecordGrounds.{lastTime, ownTime, isBefore, isNotAfter, stateGround}
+use Rattle.rules.specs.RecordGrounds.{ownTime, isNotAfter, stateGround}
+use Rattle.rules.specs.Sequence.{justBefore, isAfter, stateKey}
 use Rattle.rules.proofs.Booleans.{or-right}
 use Rattle.rules.proofs.FirstGround.{then-left, then-right, not-met}
-use Rattle.states.specs.Held.{fromOf, nextOf}
 
-pub is-before : (t : ℕ) (o : Option ℕ) → isBefore t o ≡ ltb t (fromOf o)
-is-before t none = sym (le-ltb t 0 zero-le)
-is-before t (some u) = refl
+-- the time of a module's last record, and the least time that its next one may have; 0 where it has none
+abbrev pub fromOf : Option ℕ → ℕ
+fromOf none = 0
+fromOf (some t) = t
 
-pub is-not-after : (t : ℕ) (o : Option ℕ) → isNotAfter t o ≡ ltb t (nextOf o)
+abbrev pub nextOf : Option ℕ → ℕ
+nextOf none = 0
+nextOf (some t) = suc t
+
+is-not-after : (t : ℕ) (o : Option ℕ) → isNotAfter t o ≡ ltb t (nextOf o)
 is-not-after t none = sym (le-ltb t 0 zero-le)
 is-not-after t (some u) = sym (leb·suc-suc t u)
 
@@ -43,7 +48,7 @@ module _ (period modules : ℕ) (earlier : List StateRecord) (i : ℕ) (r : Stat
       let a8 = then-right (ground 7 1 i (leb modules (r .«module»))) _ a7 in
       let a9 = then-right (ground 8 1 i (ltb 23 (r .code))) _ a8 in
       let a10 = then-right (ground 9 1 i (leb period (r .time))) _ a9 in
-      let own = or-right (isBefore (r .time) (lastTime earlier)) (isNotAfter (r .time) (ownTime (r .«module») earlier)) (not-met 10 1 i _ a10) in
+      let own = or-right (not (isAfter stateKey (justBefore earlier) r)) (isNotAfter (r .time) (ownTime (r .«module») earlier)) (not-met 10 1 i _ a10) in
       record {
         known = leb-false modules (r .«module») (not-met 7 1 i _ (then-left (ground 7 1 i (leb modules (r .«module»))) _ a7));
         low = omega (arith, ltb-false 23 (r .code) (not-met 8 1 i _ (then-left (ground 8 1 i (ltb 23 (r .code))) _ a8)));

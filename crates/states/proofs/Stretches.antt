@@ -15,10 +15,9 @@ use Rattle.rules.specs.Grounds.{firstOf, inTurn, eachOf}
 use Rattle.rules.specs.RecordGrounds.{ownTime, stateGround, openingGround, stateGrounds}
 use Rattle.rules.proofs.FirstGround.{then-left, then-right}
 use Rattle.rules.specs.Time.{keep, codeAt, isState, count, stateTime}
-use Rattle.states.specs.Held.{fromOf}
 use Rattle.states.proofs.Table.{both-left, both-right, both}
 use Rattle.states.proofs.OneMore.{own-time, own-other}
-use Rattle.states.proofs.Sound.{Sound, sound, from-next}
+use Rattle.states.proofs.Sound.{fromOf, Sound, sound, from-next}
 use Rattle.states.proofs.Count.{count-stretch, count-alike}
 
 -- the stretches of module m in state k, from u on, where its code is c at u

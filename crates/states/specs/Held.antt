@@ -3,7 +3,7 @@
 -- Definitions only.
 use mathlib.Core.Path.{_≡_}
 use mathlib.Core.Bool.{Bool, false}
-use mathlib.Core.Option.{Option, none, some, IsSome}
+use mathlib.Core.Option.{none, some, IsSome}
 use mathlib.Core.List.{List}
 use Prim.Native.Nat.{ℕ, zero, suc, _+_, _-_, _*_, _/_, _%_, _≤_, _<_}
 use lib.Dec.{leb}
@@ -15,17 +15,8 @@ use Rattle.rules.specs.declared.Verdict.the-variants.{Accepted}
 use Rattle.rules.specs.Grounds.{eachOf}
 use Rattle.rules.specs.Names.{productive, standby, engineering}
 use Rattle.rules.specs.Time.{stateOf, codeAt, stateTime}
-use Rattle.rules.specs.RecordGrounds.{lastTime, ownTime, firstTime, isOpening, stateGround}
-
--- the least time that the next record may have, after one at this time
-abbrev pub fromOf : Option ℕ → ℕ
-fromOf none = 0
-fromOf (some t) = t
-
--- the least time that a module's next record may have, after its own at this time
-abbrev pub nextOf : Option ℕ → ℕ
-nextOf none = 0
-nextOf (some t) = suc t
+use Rattle.rules.specs.Keys.{StatesSequenced}
+use Rattle.rules.specs.RecordGrounds.{ownTime, firstTime, isOpening, stateGround}
 
 -- the totals once module m has been d ms in a state
 abbrev pub totalsWith : List ℕ → ℕ → ℕ → ℕ → List ℕ
@@ -89,9 +80,9 @@ pub record Held (rs : List StateRecord) (period : ℕ) (T P : List ℕ) (O : Lis
   pub sums : (m : ℕ) → m < 64 → Sums rs T m (getD P m 0 / 8 - 1)
 
 -- record i's answer v, and what is held where it passes
-pub record Stepped (at : ℕ → StateRecord) (period modules i : ℕ) (v : Verdict) (f : ℕ) (T P : List ℕ) (O : List Bool) : Type 0 where
+pub record Stepped (at : ℕ → StateRecord) (period modules i : ℕ) (v : Verdict) (least : ℕ) (T P : List ℕ) (O : List Bool) : Type 0 where
   pub answer : v ≡ stateGround period modules (upTo at i) i (at i)
-  pub from : v ≡ Accepted → f ≡ fromOf (lastTime (upTo at (i + 1)))
+  pub sequenced : v ≡ Accepted → StatesSequenced (upTo at (i + 1)) least
   pub held : v ≡ Accepted → Held (upTo at (i + 1)) period T P O
 
 -- the answer v to n records, and what is held where all pass

@@ -9,9 +9,10 @@ ghost use Rattle.records.specs.Log.{stateAt, upTo};
 ghost use Rattle.records.specs.Covers.{Covers};
 ghost use Rattle.rules.specs.Grounds.{ground};
 ghost use Rattle.rules.specs.Time.{states, stateOf};
-ghost use Rattle.rules.specs.RecordGrounds.{lastTime, ownTime, stateGround};
+ghost use Rattle.rules.specs.Keys.{stateNumber, StateFits, StatesSequenced};
+ghost use Rattle.rules.specs.RecordGrounds.{stateGround};
 ghost use Rattle.states.specs.Tally.{Tallied};
-ghost use Rattle.states.specs.Held.{fromOf, nextOf, totalsWith, isUptime, uptimeMarks, uptimeIn, Held, Stepped, Scanned};
+ghost use Rattle.states.specs.Held.{totalsWith, isUptime, uptimeMarks, uptimeIn, Held, Stepped, Scanned};
 use records::Header;
 use records::StateRecord;
 use rules::Refusal;
@@ -120,9 +121,18 @@ fn refused(number: usize, i: usize) -> Verdict
     })
 }
 
-// The first ground that record i meets. `from` is the least time that it may have, and `own` the least that a record of its module may.
-fn test(r: StateRecord, i: usize, h: Header, from: u64, own: u64) -> Verdict
-    ensures { λ v. ⌜ ((earlier : List StateRecord) → from ≡ fromOf (lastTime earlier) → own ≡ nextOf (ownTime (r .«module») earlier) → v ≡ stateGround (h .period) (h .modules) earlier i r) ⌝ }
+// A record's time and module in one number, by which records ascend.
+fn number_of(r: StateRecord) -> u64
+    requires { ⌜ StateFits r ⌝ }
+    ensures { λ n. ⌜ n ≡ stateNumber r ⌝ }
+{
+    r.time * 64 + r.module as u64
+}
+
+// The first ground that record i meets. `least` is the least number that it may have, after records that rise: one above it is later than its module's last.
+fn test(r: StateRecord, i: usize, h: Header, least: u64) -> Verdict
+    requires { ⌜ StateFits r ⌝ }
+    ensures { λ v. ⌜ ((earlier : List StateRecord) → StatesSequenced earlier least → v ≡ stateGround (h .period) (h .modules) earlier i r) ⌝ }
 {
     let period = h.period;
     let modules = h.modules;
@@ -141,10 +151,7 @@ fn test(r: StateRecord, i: usize, h: Header, from: u64, own: u64) -> Verdict
     if period <= time {
         return refused(9, i);
     }
-    if time < from {
-        return refused(10, i);
-    }
-    if time < own {
+    if number_of(r) < least {
         return refused(10, i);
     }
     Verdict::Accepted
@@ -152,28 +159,29 @@ fn test(r: StateRecord, i: usize, h: Header, from: u64, own: u64) -> Verdict
 
 // Tests record i. Where it passes, its module's open stretch ends and the next begins. Of each module `latest` has, in one word, eight times the least time
 // that its next record may have, which is 0 where it has no record yet, and the table's entry for the code of its latest: the state that it is in since.
+// `least` is the least number that the next record of any module may have.
 fn tally_record(
     table: &[u8; 24],
     log: &[u8],
     h: Header,
     i: usize,
-    from: &mut u64,
+    least: &mut u64,
     totals: &mut [u64; 384],
     latest: &mut [u64; 64],
     opened: &mut [bool; 64],
 ) -> Verdict
     requires { ⌜ now table ≡ states ⌝ }
     requires { ⌜ Covers (now log) (10 + 6 * i + 6) ⌝ }
-    requires { ⌜ now from ≡ fromOf (lastTime (upTo (stateAt (now log)) i)) ⌝ }
+    requires { ⌜ StatesSequenced (upTo (stateAt (now log)) i) (now least) ⌝ }
     requires { ⌜ Held (upTo (stateAt (now log)) i) (h .period) (now totals) (now latest) (now opened) ⌝ }
-    ensures { λ r. ⌜ Stepped (stateAt (now (log .entry))) (h .period) (h .modules) i r (now (from .exit)) (now (totals .exit)) (now (latest .exit)) (now (opened .exit)) ⌝ }
+    ensures { λ r. ⌜ Stepped (stateAt (now (log .entry))) (h .period) (h .modules) i r (now (least .exit)) (now (totals .exit)) (now (latest .exit)) (now (opened .exit)) ⌝ }
 {
     let r = records::state_within(log, i);
     let m = r.module;
     let t = r.time;
     let word = latest[m];
     let own = word / 8;
-    let v = test(r, i, h, *from, own);
+    let v = test(r, i, h, *least);
     if let Verdict::Refused(f) = v {
         return Verdict::Refused(f);
     }
@@ -183,7 +191,7 @@ fn tally_record(
         add_stretch(totals, m, (word % 8) as usize, t - (own - 1));
     }
     latest[m] = (t + 1) * 8 + state_of(table, r.code) as u64;
-    *from = t;
+    *least = number_of(r) + 1;
     Verdict::Accepted
 }
 
@@ -202,9 +210,9 @@ fn tally_records(
     ensures { λ r. ⌜ Scanned (stateAt (now (log .entry))) (h .period) (h .modules) (h .states) r (now (totals .exit)) (now (latest .exit)) (now (opened .exit)) ⌝ }
 {
     let states = h.states;
-    let mut from = 0;
+    let mut least = 0;
     for i in 0..states {
-        let v = tally_record(table, log, h, i, &mut from, totals, latest, opened);
+        let v = tally_record(table, log, h, i, &mut least, totals, latest, opened);
         if let Verdict::Refused(f) = v {
             return Verdict::Refused(f);
         }

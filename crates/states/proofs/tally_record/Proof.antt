@@ -10,11 +10,15 @@ use lib.ListN.{getD}
 use Rattle.records.specs.declared.StateRecord.{StateRecord}
 use Rattle.records.specs.Log.{stateAt, upTo}
 use Rattle.records.proofs.UpTo.{up-to-more}
+use mathlib.Core.Bool.{true}
+use Rattle.rules.specs.Sequence.{justBefore, isAfter, stateKey}
+use Rattle.rules.specs.Keys.{stateNumber, StateFits}
 use Rattle.rules.specs.RecordGrounds.{stateGround}
 use Rattle.rules.proofs.FirstGround.{refused-not}
-use Rattle.states.proofs.OneMore.{last-more}
+use Rattle.rules.proofs.Risen.{state-after}
+use Rattle.rules.proofs.Keys.{sequenced-more, states-below}
 use Rattle.states.proofs.Sound.{Sound, sound}
-use Rattle.states.proofs.Pass.{module-low, time-low, next-own, held-first, since, held-next}
+use Rattle.states.proofs.Pass.{fits-fields, held-first, since, held-next}
 use Rattle.states.proofs.Sums.{room}
 use Rattle.states.proofs.tally_record.Statement.{statement}
 use Rattle.states.proofs.tally_record.Tie as tie
@@ -23,11 +27,14 @@ use Rattle.states.proofs.tally_record.Tie as tie
 abbrev earlier : tie.Start → List StateRecord
 earlier s = upTo (stateAt (s .args .log .now)) (s .args .i)
 
+fits : (c : tie.After-state-within) → StateFits (c .state-within .result)
+fits c = rw (c .state-within .ensures) (fits-fields (c .before .before .args .log .now) (c .before .before .args .i))
+
 module-below : (c : tie.After-state-within) → c .state-within .result .«module» < 64
-module-below c = rw (c .state-within .ensures) (module-low (c .before .before .args .log .now) (c .before .before .args .i))
+module-below c = fits c .0
 
 time-below : (c : tie.After-state-within) → c .state-within .result .time < 2 ^ 35
-time-below c = rw (c .state-within .ensures) (time-low (c .before .before .args .log .now) (c .before .before .args .i))
+time-below c = fits c .1
 
 -- the answer of the tests is the definition's
 tested : (c : tie.After-test)
@@ -37,7 +44,7 @@ tested : (c : tie.After-test)
 tested c =
     let q = c .before .before .before in
     let s = q .before .before in
-    c .test .ensures (earlier s) (s .pre .1 .1 .0) (next-own (s .pre .1 .1 .1 .modules .each _ (module-below q) .stretch))
+    c .test .ensures (earlier s) (s .pre .1 .1 .0)
     ∙ ap (stateGround (s .args .h .period) (s .args .h .modules) (earlier s) (s .args .i)) (q .state-within .ensures)
 
 -- what is read of the log, after the tests
@@ -55,7 +62,7 @@ is-sound c =
 returns : tie.Need-returns
 returns c = record {
   answer = sym (c .before .v .given .1) ∙ tested (c .before .before .before);
-  from = λ e. absurd (refused-not e);
+  sequenced = λ e. absurd (refused-not e);
   held = λ e. absurd (refused-not e);
 }
 
@@ -78,14 +85,18 @@ state-of-requires c κs = (read (c .before) .before .before .pre .0, is-sound (c
 
 returns-2 : tie.Need-returns-2
 returns-2 c =
-    let j = c .before in
+    let o = c .before in
+    let j = o .before in
     let a = j .before in
     let q = read a in
     let s = q .before .before in
+    let passed = sym (tested (a .before .before)) ∙ a .enum-told .given .1 in
+    let after : isAfter stateKey (justBefore (earlier s)) (q .state-within .result) ≡ true = ap (isAfter stateKey (justBefore (earlier s))) (q .state-within .ensures) ∙ state-after _ _ _ _ _ passed in
     record {
       answer = sym (a .enum-told .given .1) ∙ tested (a .before .before);
-      from = λ _. rw (up-to-more (stateAt (s .args .log .now)) (s .args .i), ← q .state-within .ensures, last-more (earlier s) (q .state-within .result));
-      held = λ _. rw (up-to-more (stateAt (s .args .log .now)) (s .args .i), ← q .state-within .ensures, c .state-of .ensures .0)
+      sequenced = λ _. rw (up-to-more (stateAt (s .args .log .now)) (s .args .i), ← q .state-within .ensures, c .number-of .ensures)
+          (sequenced-more stateKey stateNumber StateFits states-below (earlier s) _ _ (s .pre .1 .1 .0) (fits q) after);
+      held = λ _. rw (up-to-more (stateAt (s .args .log .now)) (s .args .i), ← q .state-within .ensures, o .state-of .ensures .0)
           (⊎-elim
           (λ w. rw (w .1, w .2) (held-first _ _ (is-sound a) (s .pre .1 .1 .1) (module-below q) (w .0 .taken)))
           (λ w. rw (w .3, w .4, w .2 .ensures) (held-next _ _ (is-sound a) (s .pre .1 .1 .1) (module-below q) (w .0 .left)))
@@ -99,7 +110,7 @@ tally-record-spec =
     (λ c κs. search needs)
     (λ c. omega (arith, module-below c))
     module-below
-    (λ c κs. search needs)
+    (λ c κs. fits (c .before .before))
     (λ c. search needs)
     returns
     (λ c. search needs)
@@ -113,4 +124,6 @@ tally-record-spec =
     (λ c. omega (arith, time-below (read (c .before .before)), c .state-of .ensures .1))
     (λ c. omega (arith, module-below (read (c .before .before))))
     (λ c. module-below (read (c .before .before)))
+    (λ c κs. fits (read (c .before .before)))
+    (λ c. omega (arith, fits (read (c .before .before .before)), c .number-of .ensures))
     returns-2)

@@ -9,9 +9,12 @@ use Rattle.records.specs.Log.{stateAt, upTo}
 use Rattle.rules.specs.declared.Verdict.{Verdict}
 use Rattle.rules.specs.declared.Verdict.the-variants.{Accepted}
 use Rattle.rules.specs.Grounds.{firstOf}
-use Rattle.rules.specs.RecordGrounds.{lastTime, stateGround}
+use Rattle.rules.specs.Keys.{stateNumber, StateFits, StatesSequenced}
+use Rattle.rules.specs.Sequence.{stateKey}
+use Rattle.rules.specs.RecordGrounds.{stateGround}
+use Rattle.rules.proofs.Keys.{sequenced-none}
 use Rattle.rules.proofs.FirstGround.{first-none, first-more, first-stop, turn-range, refused-not}
-use Rattle.states.specs.Held.{fromOf, Held}
+use Rattle.states.specs.Held.{Held}
 use Rattle.states.proofs.tally_records.Statement.{statement}
 use Rattle.states.proofs.tally_records.Tie as tie
 
@@ -20,19 +23,19 @@ abbrev groundAt : ℕ → ℕ → (ℕ → StateRecord) → ℕ → Verdict
 groundAt period modules at i = stateGround period modules (upTo at i) i (at i)
 
 abbrev Inv-loop : tie.InvT-loop
-Inv-loop table log h totals₀ latest₀ opened₀ states from₀ i₀ totals latest opened from i =
+Inv-loop table log h totals₀ latest₀ opened₀ states least₀ i₀ totals latest opened least i =
     (i ≤ states)
     × (states ≡ h .states)
     × (firstOf (groundAt (h .period) (h .modules) (stateAt log)) i ≡ Accepted)
-    × (from ≡ fromOf (lastTime (upTo (stateAt log) i)))
+    × StatesSequenced (upTo (stateAt log) i) least
     × Held (upTo (stateAt log) i) (h .period) totals latest opened
 
 abbrev μ-loop : tie.MeasureT-loop
-μ-loop table log h totals₀ latest₀ opened₀ states from₀ i₀ totals latest opened from i = states - i
+μ-loop table log h totals₀ latest₀ opened₀ states least₀ i₀ totals latest opened least i = states - i
 
 loop-holds : tie.Need-loop-holds Inv-loop μ-loop
-unfolding upTo lastTime
-loop-holds c = (search needs, refl, first-none _, refl, c .before .pre .1 .1)
+unfolding upTo
+loop-holds c = (search needs, refl, first-none _, sequenced-none stateKey stateNumber StateFits, c .before .pre .1 .1)
 
 tally-record-requires : tie.Need-tally-record-requires Inv-loop μ-loop
 tally-record-requires c κs =
@@ -74,7 +77,7 @@ loop-again c =
       search needs,
       refl,
       first-more _ (l .loop .i) (l .loop .inv .2) (sym (t .tally-record .ensures .answer) ∙ e),
-      t .tally-record .ensures .from e,
+      t .tally-record .ensures .sequenced e,
       t .tally-record .ensures .held e,
     )
 
