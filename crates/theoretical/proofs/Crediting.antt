@@ -1,7 +1,8 @@
 -- The unit records tested and credited, one by one.
 -- Assumes nothing.
 use mathlib.Core.Path.{_≡_, sym, ap, _∙_}
-use mathlib.Core.Option.{Option, none, some}
+use mathlib.Core.Bool.{not}
+use mathlib.Core.Option.{none, some}
 use mathlib.Core.List.{List, [], _∷_, _++_}
 use Prim.Native.Nat.{ℕ, _+_, _*_, _^_, _≤_, _<_}
 use native.Mathlib.Nat.{mul-le-mul, add-assoc}
@@ -9,7 +10,7 @@ use native.Mathlib.Decide.{ℕ-discrete}
 use native.Mathlib.Omega.{arith}
 use lib.ListN.{length, getD, set, replicate, length-set, length-replicate, getD-replicate}
 use lib.Seq.{getD-set-same, getD-set-other}
-use borrow.Author.Tests.{eq-eqb, ne-eqb}
+use borrow.Author.Tests.{eq-eqb, ne-eqb, le-leb, lt-leb}
 use Rattle.records.specs.declared.Standard.{Standard}
 use Rattle.records.specs.declared.UnitRecord.{UnitRecord}
 use Rattle.records.specs.Log.{upTo}
@@ -19,7 +20,10 @@ use Rattle.rules.specs.declared.Verdict.{Verdict}
 use Rattle.rules.specs.declared.Verdict.the-variants.{Accepted, Refused}
 use Rattle.rules.specs.Grounds.{ground, _then_, firstOf}
 use Rattle.rules.specs.Theoretical.{inForce, credit, theoreticalTime}
+use Rattle.rules.specs.Sequence.{justBefore, isAfter, unitKey}
+use Rattle.rules.specs.Keys.{unitNumber, UnitFits, UnitsSequenced}
 use Rattle.rules.specs.RecordGrounds.{isNone, unitGround, unitGrounds}
+use Rattle.rules.proofs.Keys.{units-below, sequenced-none, sequenced-more}
 use Rattle.rules.proofs.FirstGround.{then-assoc, refused-not, first-none, first-more, first-stop, turn-range}
 use Rattle.theoretical.specs.Credits.{ownGrounds, SumsSoFar, OneUnit, AllUnits}
 
@@ -63,47 +67,64 @@ module _ (f : UnitRecord → ℕ) (ss : List Standard) where
 
 -- ---- one unit record tested
 
-own-then : (period modules : ℕ) (ss : List Standard) (us : List UnitRecord) (i : ℕ) (u : UnitRecord)
-    → unitGround period modules ss us i u ≡ ownGrounds period modules i u then ground 15 3 i (isNone (inForce ss (u .recipe) (u .time)))
+-- 15 and 19, behind the tests that look at the record alone
+abbrev last-tests : List Standard → List UnitRecord → ℕ → UnitRecord → Verdict
+last-tests ss us i u = ground 15 3 i (isNone (inForce ss (u .recipe) (u .time))) then ground 19 3 i (not (isAfter unitKey (justBefore us) u))
+
+own-then : (period modules : ℕ) (ss : List Standard) (us : List UnitRecord) (i : ℕ) (u : UnitRecord) → unitGround period modules ss us i u ≡ ownGrounds period modules i u then last-tests ss us i u
 unfolding unitGround ownGrounds
 own-then period modules ss us i u = sym (simp then-assoc)
 
 module _ (period modules : ℕ) (ss : List Standard) (at : ℕ → UnitRecord) (i : ℕ) (u : UnitRecord) (eu : u ≡ at i) (v : Verdict) (ev : v ≡ ownGrounds period modules i u) where
   -- refused for itself
-  pub unit-own : (x : Refusal) → v ≡ Refused x → (A E : List ℕ) → OneUnit period modules ss at i v A E
-  unit-own x e A E =
+  pub unit-own : (x : Refusal) → v ≡ Refused x → (least : ℕ) (A E : List ℕ) → OneUnit period modules ss at i v least A E
+  unit-own x e least A E =
       record {
-        answer = e ∙ sym (rw (← eu) (own-then period modules ss (upTo at i) i u ∙ ap (λ (w : Verdict). w then ground 15 3 i (isNone (inForce ss (u .recipe) (u .time)))) (sym ev ∙ e)));
+        answer = e ∙ sym (rw (← eu) (own-then period modules ss (upTo at i) i u ∙ ap (λ (w : Verdict). w then last-tests ss (upTo at i) i u) (sym ev ∙ e)));
+        sequenced = λ f. absurd (refused-not (sym e ∙ f));
         summed = λ f. absurd (refused-not (sym e ∙ f));
       }
 
-  decided : v ≡ Accepted → (o : Option Standard) → inForce ss (u .recipe) (u .time) ≡ o → unitGround period modules ss (upTo at i) i (at i) ≡ ground 15 3 i (isNone o)
-  decided e o h = rw (← eu, ← h) (own-then period modules ss (upTo at i) i u ∙ ap (λ (w : Verdict). w then ground 15 3 i (isNone (inForce ss (u .recipe) (u .time)))) (sym ev ∙ e))
+  decided : v ≡ Accepted → unitGround period modules ss (upTo at i) i (at i) ≡ last-tests ss (upTo at i) i u
+  decided e = rw (← eu) (own-then period modules ss (upTo at i) i u ∙ ap (λ (w : Verdict). w then last-tests ss (upTo at i) i u) (sym ev ∙ e))
 
-  pub unit-none : v ≡ Accepted → inForce ss (u .recipe) (u .time) ≡ none → (w : Verdict) → w ≡ Refused (record { number = 15; list = 3; place = i }) → (A E : List ℕ) → OneUnit period modules ss at i w A E
-  unit-none e h w ew A E = record { answer = ew ∙ sym (decided e none h); summed = λ f. absurd (refused-not (sym ew ∙ f)) }
+  -- refused for 15 or 19
+  unit-refused : (x : Refusal) (w : Verdict) → w ≡ Refused x → v ≡ Accepted → last-tests ss (upTo at i) i u ≡ Refused x → (least : ℕ) (A E : List ℕ) → OneUnit period modules ss at i w least A E
+  unit-refused x w ew e h least A E = record { answer = ew ∙ sym (decided e ∙ h); sequenced = λ f. absurd (refused-not (sym ew ∙ f)); summed = λ f. absurd (refused-not (sym ew ∙ f)) }
 
-  pub unit-credited : v ≡ Accepted → (s : Standard) → inForce ss (u .recipe) (u .time) ≡ some s → u .«module» < 64 → u .actual < 65536 → u .effective < 65536 → s .theoretical < 134217728
-      → (A E : List ℕ) → SumsSoFar ss (upTo at i) i A E
-      → (A′ E′ : List ℕ) → A′ ≡ set A (u .«module») (getD A (u .«module») 0 + u .actual * s .theoretical) → E′ ≡ set E (u .«module») (getD E (u .«module») 0 + u .effective * s .theoretical)
-      → OneUnit period modules ss at i Accepted A′ E′
-  unit-credited e s h low few few′ short A E sums A′ E′ ea ee =
-      record { answer = sym (decided e (some s) h); summed = λ f. rw (ea, ee, up-to-more at i, ← eu) more }
-    where
-      more : SumsSoFar ss (upTo at i ++ (u ∷ [])) (i + 1) (set A (u .«module») (getD A (u .«module») 0 + u .actual * s .theoretical)) (set E (u .«module») (getD E (u .«module») 0 + u .effective * s .theoretical))
-      more =
-          record {
-            sized = (length-set A _ _ ∙ sums .sized .0, length-set E _ _ ∙ sums .sized .1);
-            low = λ m l. (
-              low-more (λ u. u .actual) ss (upTo at i) u s A (sums .sized .0) low h i few short (λ k q. sums .low k q .0) m l,
-              low-more (λ u. u .effective) ss (upTo at i) u s E (sums .sized .1) low h i few′ short (λ k q. sums .low k q .1) m l,
-            );
-            credited =
-                record {
-                  actual = sum-more (λ u. u .actual) ss (upTo at i) u s A (sums .sized .0) low h (sums .credited .actual);
-                  effective = sum-more (λ u. u .effective) ss (upTo at i) u s E (sums .sized .1) low h (sums .credited .effective);
-                };
-          }
+  pub unit-none : v ≡ Accepted → inForce ss (u .recipe) (u .time) ≡ none → (w : Verdict) → w ≡ Refused (record { number = 15; list = 3; place = i }) → (least : ℕ) (A E : List ℕ) → OneUnit period modules ss at i w least A E
+  unit-none e h w ew = unit-refused _ w ew e (rw h)
+
+  module _ (e : v ≡ Accepted) (s : Standard) (h : inForce ss (u .recipe) (u .time) ≡ some s) (least : ℕ) (q : UnitsSequenced (upTo at i) least) (fits : UnitFits u) where
+    pub unit-unsorted : unitNumber u < least → (w : Verdict) → w ≡ Refused (record { number = 19; list = 3; place = i }) → (least′ : ℕ) (A E : List ℕ) → OneUnit period modules ss at i w least′ A E
+    unit-unsorted l w ew = unit-refused _ w ew e (rw (h, q .next u fits, lt-leb least (unitNumber u) l))
+
+    pub unit-credited : least ≤ unitNumber u → u .actual < 65536 → u .effective < 65536 → s .theoretical < 134217728
+        → (A E : List ℕ) → SumsSoFar ss (upTo at i) i A E
+        → (least′ : ℕ) (A′ E′ : List ℕ) → least′ ≡ unitNumber u + 1 → A′ ≡ set A (u .«module») (getD A (u .«module») 0 + u .actual * s .theoretical) → E′ ≡ set E (u .«module») (getD E (u .«module») 0 + u .effective * s .theoretical)
+        → OneUnit period modules ss at i Accepted least′ A′ E′
+    unit-credited l few few′ short A E sums least′ A′ E′ el ea ee =
+        let after = q .next u fits ∙ le-leb least (unitNumber u) l in
+        record {
+          answer = sym (decided e ∙ rw (h, after));
+          sequenced = λ f. rw (el, up-to-more at i, ← eu) (sequenced-more unitKey unitNumber UnitFits units-below (upTo at i) least u q fits after);
+          summed = λ f. rw (ea, ee, up-to-more at i, ← eu) more;
+        }
+      where
+        more : SumsSoFar ss (upTo at i ++ (u ∷ [])) (i + 1) (set A (u .«module») (getD A (u .«module») 0 + u .actual * s .theoretical)) (set E (u .«module») (getD E (u .«module») 0 + u .effective * s .theoretical))
+        more =
+            record {
+              sized = (length-set A _ _ ∙ sums .sized .0, length-set E _ _ ∙ sums .sized .1);
+              low = λ m l. (
+                low-more (λ u. u .actual) ss (upTo at i) u s A (sums .sized .0) (fits .0) h i few short (λ k q. sums .low k q .0) m l,
+                low-more (λ u. u .effective) ss (upTo at i) u s E (sums .sized .1) (fits .0) h i few′ short (λ k q. sums .low k q .1) m l,
+              );
+              credited =
+                  record {
+                    actual = sum-more (λ u. u .actual) ss (upTo at i) u s A (sums .sized .0) (fits .0) h (sums .credited .actual);
+                    effective = sum-more (λ u. u .effective) ss (upTo at i) u s E (sums .sized .1) (fits .0) h (sums .credited .effective);
+                  };
+            }
 
 -- ---- all of them, one by one
 
@@ -111,32 +132,34 @@ abbrev tests : ℕ → ℕ → List Standard → (ℕ → UnitRecord) → ℕ �
 tests period modules ss at i = unitGround period modules ss (upTo at i) i (at i)
 
 -- the first i were tested, passed and credited
-pub record CreditedTo (period modules : ℕ) (ss : List Standard) (at : ℕ → UnitRecord) (n i : ℕ) (A E : List ℕ) : Type 0 where
+pub record CreditedTo (period modules : ℕ) (ss : List Standard) (at : ℕ → UnitRecord) (n i least : ℕ) (A E : List ℕ) : Type 0 where
   pub within : i ≤ n
   pub fine : firstOf (tests period modules ss at) i ≡ Accepted
+  pub sequenced : UnitsSequenced (upTo at i) least
   pub summed : SumsSoFar ss (upTo at i) i A E
 
 module _ (period modules : ℕ) (ss : List Standard) (at : ℕ → UnitRecord) (n : ℕ) where
-  pub credited-none : (A E : List ℕ) → SumsSoFar ss (upTo at 0) 0 A E → CreditedTo period modules ss at n 0 A E
-  credited-none A E s = record { within = omega arith; fine = first-none (tests period modules ss at); summed = s }
+  pub credited-none : (A E : List ℕ) → SumsSoFar ss (upTo at 0) 0 A E → CreditedTo period modules ss at n 0 0 A E
+  unfolding upTo
+  credited-none A E s = record { within = omega arith; fine = first-none (tests period modules ss at); sequenced = sequenced-none unitKey unitNumber UnitFits; summed = s }
 
-  pub credited-step : (i : ℕ) (A E : List ℕ) → i < n → CreditedTo period modules ss at n i A E → (v : Verdict) (A′ E′ : List ℕ) → OneUnit period modules ss at i v A′ E′ → v ≡ Accepted
-      → CreditedTo period modules ss at n (i + 1) A′ E′
-  credited-step i A E h c v A′ E′ u e =
-      record { within = omega arith; fine = first-more (tests period modules ss at) i (c .fine) (sym (u .answer) ∙ e); summed = u .summed e }
+  pub credited-step : (i least : ℕ) (A E : List ℕ) → i < n → CreditedTo period modules ss at n i least A E → (v : Verdict) (least′ : ℕ) (A′ E′ : List ℕ) → OneUnit period modules ss at i v least′ A′ E′ → v ≡ Accepted
+      → CreditedTo period modules ss at n (i + 1) least′ A′ E′
+  credited-step i least A E h c v least′ A′ E′ u e =
+      record { within = omega arith; fine = first-more (tests period modules ss at) i (c .fine) (sym (u .answer) ∙ e); sequenced = u .sequenced e; summed = u .summed e }
 
-  pub credited-stop : (i : ℕ) (A E : List ℕ) → i < n → CreditedTo period modules ss at n i A E → (v : Verdict) (A′ E′ : List ℕ) → OneUnit period modules ss at i v A′ E′ → (x : Refusal) → v ≡ Refused x
+  pub credited-stop : (i least : ℕ) (A E : List ℕ) → i < n → CreditedTo period modules ss at n i least A E → (v : Verdict) (least′ : ℕ) (A′ E′ : List ℕ) → OneUnit period modules ss at i v least′ A′ E′ → (x : Refusal) → v ≡ Refused x
       → AllUnits period modules ss (upTo at n) v A′ E′
   unfolding unitGrounds
-  credited-stop i A E h c v A′ E′ u x e =
+  credited-stop i least A E h c v least′ A′ E′ u x e =
       record {
         answer = e ∙ sym (turn-range (unitGround period modules ss) at n ∙ first-stop (tests period modules ss at) n i x h (c .fine) (sym (u .answer) ∙ e));
         credited = λ f. absurd (refused-not (sym e ∙ f));
       }
 
-  pub credited-all : (i : ℕ) (A E : List ℕ) → n ≤ i → CreditedTo period modules ss at n i A E → AllUnits period modules ss (upTo at n) Accepted A E
+  pub credited-all : (i least : ℕ) (A E : List ℕ) → n ≤ i → CreditedTo period modules ss at n i least A E → AllUnits period modules ss (upTo at n) Accepted A E
   unfolding unitGrounds
-  credited-all i A E h c =
+  credited-all i least A E h c =
       let q : i ≡ n = omega (arith, c .within) in
       record { answer = sym (turn-range (unitGround period modules ss) at n ∙ rw q at (c .fine)); credited = λ e. rw q at (c .summed .credited) }
 

@@ -1,12 +1,12 @@
 -- The standards tested and listed, one by one.
 -- Assumes nothing.
 use mathlib.Core.Path.{_≡_, refl, sym, ap, _∙_}
-use mathlib.Core.Bool.{Bool, true, false}
+use mathlib.Core.Bool.{Bool, true, false, _&&_, _||_}
 use mathlib.Core.Option.{Option, none, some}
-use mathlib.Core.List.{List}
-use Prim.Native.Nat.{ℕ, zero, suc, pred, _+_, _*_, _/_, _%_, _^_, _≤_, _<_}
+use mathlib.Core.List.{List, [], _∷_, _++_}
+use Prim.Native.Nat.{ℕ, zero, suc, _+_, _*_, _/_, _%_, _^_, _≤_, _<_}
 use native.Mathlib.Numerals.{add-one}
-use native.Mathlib.Decide.{ℕ-discrete, decLt}
+use native.Mathlib.Decide.{ℕ-discrete}
 use native.Mathlib.Omega.{arith}
 use lib.ListN.{length, getD, set, replicate, length-set, length-replicate, getD-replicate}
 use lib.Seq.{getD-set-same, getD-set-other}
@@ -24,11 +24,17 @@ use Rattle.rules.specs.Theoretical.{inForce, Answers}
 use Rattle.rules.specs.RecordGrounds.{isAmong, standardGround, standardGrounds}
 use Rattle.rules.proofs.FirstGround.{refused-not, then-left, then-right, not-met, first-none, first-more, first-stop, first-all, turn-range}
 use Rattle.rules.proofs.InForce.{in-force}
-use Rattle.theoretical.specs.declared.Listed.{Listed}
+use Rattle.rules.proofs.Booleans.{or-true}
+use Rattle.rules.proofs.Sequence.{start-above, rising-pair}
+use Rattle.rules.proofs.Spared.{not-among}
+use Rattle.rules.proofs.Risen.{standards-rise}
+use Rattle.rules.proofs.Keys.{sequenced-none}
+use Rattle.rules.specs.Sequence.{standardKey}
+use Rattle.rules.specs.Keys.{standardNumber, StandardFits, StandardsSequenced}
 use Rattle.theoretical.specs.declared.Lookup.the-variants.{Found, Nothing}
-use Rattle.theoretical.specs.Chains.{lastOf, Rising, TimedApart, entryOf, entryIn, lookupOf}
-use Rattle.theoretical.specs.Listing.{Listing, Tested, Added, AllListed}
-use Rattle.theoretical.proofs.ChainLaws.{last-own, last-other, last-le, last-is, last-none, among-none, among-not}
+use Rattle.theoretical.specs.Chains.{lastOf, Proper, entryOf, entryIn, lookupOf}
+use Rattle.theoretical.specs.Listing.{Listing, Added, AllListed}
+use Rattle.theoretical.proofs.ChainLaws.{last-own, last-other}
 
 -- ---- what is looked up
 
@@ -36,14 +42,12 @@ use Rattle.theoretical.proofs.ChainLaws.{last-own, last-other, last-le,
 pub time-low : (s : List ℕ) (h : Header) (i : ℕ) → standardAt s h i .theoretical < 2 ^ 27
 time-low s h i = standard-fits s (80 + 48 * h .states + 72 * i) .1 .1 .0
 
-pub recipe-low : (s : List ℕ) (h : Header) (i : ℕ) → standardAt s h i .recipe < 1024
-recipe-low s h i = standard-fits s (80 + 48 * h .states + 72 * i) .0
-
-pub start-low : (s : List ℕ) (h : Header) (i : ℕ) → standardAt s h i .start < 2 ^ 35
-start-low s h i = standard-fits s (80 + 48 * h .states + 72 * i) .1 .0
+-- its recipe and start by theirs
+pub fits-fields : (s : List ℕ) (h : Header) (i : ℕ) → StandardFits (standardAt s h i)
+fits-fields s h i = let f = standard-fits s (80 + 48 * h .states + 72 * i) in (f .0, f .1 .0)
 
 -- the standard in force, by its entry, and none where that is 0
-module _ (at : ℕ → Standard) (n recipe time : ℕ) (fine : TimedApart at n) where
+module _ (at : ℕ → Standard) (n recipe time : ℕ) (fine : Proper at n) where
   pub looked-up : (entry : ℕ) → entry ≡ entryIn (inForce (upTo at n) recipe time) → (entry ≡ 0 → ⊥)
       → Found (record { recipe = recipe; start = entry / 2 ^ 27; theoretical = entry % 2 ^ 27 }) ≡ lookupOf (inForce (upTo at n) recipe time)
   looked-up entry e some-there = go (inForce (upTo at n) recipe time) (in-force at recipe time n) e
@@ -65,79 +69,91 @@ module _ (at : ℕ → Standard) (n recipe time : ℕ) (fine : TimedApart at n) 
           let pos : 0 < s .theoretical = rw (f .same) (fine .timed (f .index) (f .listed) .0) in
           absurd (omega arith)
 
--- a standard that passes has a time, and its recipe and start stood nowhere before
-pub passed-time : (period : ℕ) (es : List Standard) (i : ℕ) (s : Standard) → standardGround period es i s ≡ Accepted → s .theoretical ≡ 0 → ⊥
+-- standards that pass their tests
+passed-time : (period : ℕ) (es : List Standard) (i : ℕ) (s : Standard) → standardGround period es i s ≡ Accepted → s .theoretical ≡ 0 → ⊥
 unfolding standardGround
 passed-time period es i s a =
-    eqb-false (s .theoretical) 0 (not-met 12 2 i (eqb (s .theoretical) 0) (then-left (ground 12 2 i (eqb (s .theoretical) 0)) (ground 13 2 i (isAmong s es)) (then-right (ground 9 2 i (leb period (s .start))) _ a)))
+    eqb-false (s .theoretical) 0 (not-met 12 2 i (eqb (s .theoretical) 0) (then-left (ground 12 2 i (eqb (s .theoretical) 0)) _ (then-right (ground 9 2 i (leb period (s .start))) _ a)))
 
-passed-apart : (period : ℕ) (es : List Standard) (i : ℕ) (s : Standard) → standardGround period es i s ≡ Accepted → isAmong s es ≡ false
-unfolding standardGround
-passed-apart period es i s a =
-    not-met 13 2 i (isAmong s es) (then-right (ground 12 2 i (eqb (s .theoretical) 0)) _ (then-right (ground 9 2 i (leb period (s .start))) _ a))
-
--- standards that pass their tests
-pub timed-apart : (period : ℕ) (at : ℕ → Standard) (n : ℕ) → ((i : ℕ) → at i .theoretical < 2 ^ 27) → standardGrounds period (upTo at n) ≡ Accepted → TimedApart at n
+pub proper : (period : ℕ) (at : ℕ → Standard) (n : ℕ) → ((i : ℕ) → at i .theoretical < 2 ^ 27) → standardGrounds period (upTo at n) ≡ Accepted → Proper at n
 unfolding standardGrounds
-timed-apart period at n short a =
+proper period at n short a =
     let each : (i : ℕ) → i < n → standardGround period (upTo at i) i (at i) ≡ Accepted
     = first-all (λ i. standardGround period (upTo at i) i (at i)) n (sym (turn-range (standardGround period) at n) ∙ a) in
     record {
       timed = λ i h. (omega (arith, passed-time period (upTo at i) i (at i) (each i h)), short i);
-      apart = λ i j l h o e. among-not at (at j) j (passed-apart period (upTo at j) j (at j) (each j h)) i l o e;
+      rises = λ i j l h e. start-above (at i) (at j) e (rising-pair standardKey at n (standards-rise period (upTo at n) a) i j l h);
     }
 
 -- ---- one standard tested
 
-module _ (period : ℕ) (at : ℕ → Standard) (i : ℕ) (s : Standard) (es : s ≡ at i) where
-  refusal : (v : Verdict) (b : Bool) (r : Refusal) → v ≡ Refused r → v ≡ standardGround period (upTo at i) i (at i) → Tested period at i (record { verdict = v; rising = b })
-  refusal v b r e a = record { answer = a; rising = λ f g. absurd (refused-not (sym e ∙ f)) }
+among-append : (s e : Standard) (es : List Standard) → isAmong s (es ++ (e ∷ [])) ≡ (eqb (s .recipe) (e .recipe) && eqb (s .start) (e .start)) || isAmong s es
+among-append s e [] = refl
+among-append s e (d ∷ es) = swap (eqb (s .recipe) (d .recipe) && eqb (s .start) (d .start)) (eqb (s .recipe) (e .recipe) && eqb (s .start) (e .start)) (isAmong s es) (among-append s e es)
+  where
+    swap : (a b c : Bool) {d : Bool} → d ≡ b || c → a || d ≡ b || (a || c)
+    swap true true c e = refl
+    swap true false c e = refl
+    swap false b c e = e
 
-  pub test-outside : (v : Verdict) (b : Bool) → v ≡ Refused (record { number = 9; list = 2; place = i }) → period ≤ s .start → Tested period at i (record { verdict = v; rising = b })
+module _ (at : ℕ → Standard) (s : Standard) (fit : StandardFits s) where
+  among-more : (n : ℕ) → isAmong s (upTo at (suc n)) ≡ (eqb (s .recipe) (at n .recipe) && eqb (s .start) (at n .start)) || isAmong s (upTo at n)
+  unfolding upTo
+  among-more n = among-append s (at n) (upTo at n)
+
+  pub among-none : isAmong s (upTo at 0) ≡ false
+  unfolding upTo
+  among-none = refl
+
+  -- one with another number has another recipe or start
+  pub among-passed : (n : ℕ) → StandardFits (at n) → (standardNumber (at n) ≡ standardNumber s → ⊥) → isAmong s (upTo at n) ≡ false → isAmong s (upTo at (n + 1)) ≡ false
+  among-passed n fits ne e =
+      rw (add-one n, among-more n, e)
+      (elim (ℕ-discrete (s .recipe) (at n .recipe)) [
+        | yes q ↦ rw (ne-eqb (s .start) (at n .start) (λ o. ne (omega (arith, q, o)))) (nothing (eqb (s .recipe) (at n .recipe)))
+        | no q ↦ rw (ne-eqb (s .recipe) (at n .recipe) q)
+      ])
+    where
+      nothing : (b : Bool) → (b && false) || false ≡ false
+      nothing true = refl
+      nothing false = refl
+
+  -- one with its number has its recipe and start
+  pub among-found : (n i : ℕ) → i < n → StandardFits (at i) → standardNumber (at i) ≡ standardNumber s → true ≡ isAmong s (upTo at n)
+  among-found zero i h fits e = absurd (omega arith)
+  among-found (suc n) i h fits e =
+      elim (ℕ-discrete i n) [
+        | yes q ↦
+            let recipe : s .recipe ≡ at i .recipe = omega (arith, fit .1, fits .1) in
+            let start : s .start ≡ at i .start = omega (arith, fit .1, fits .1) in
+            sym (among-more n ∙ rw (← q, eq-eqb (s .recipe) (at i .recipe) recipe, eq-eqb (s .start) (at i .start) start))
+        | no q ↦ sym (among-more n ∙ or-true (eqb (s .recipe) (at n .recipe) && eqb (s .start) (at n .start)) (isAmong s (upTo at n)) (sym (among-found n i (omega (arith, q)) fits e)))
+      ]
+
+module _ (period : ℕ) (earlier : List Standard) (i least : ℕ) (s : Standard) (fit : StandardFits s) (q : StandardsSequenced earlier least) where
+  pub test-outside : period ≤ s .start → Refused (record { number = 9; list = 2; place = i }) ≡ standardGround period earlier i s
   unfolding standardGround
-  test-outside v b e h = refusal v b _ e (e ∙ rw (← es, le-leb period (s .start) h))
+  test-outside h = rw (le-leb period (s .start) h)
 
-  pub test-no-time : (v : Verdict) (b : Bool) → v ≡ Refused (record { number = 12; list = 2; place = i }) → s .start < period → s .theoretical ≡ 0 → Tested period at i (record { verdict = v; rising = b })
-  unfolding standardGround
-  test-no-time v b e h z = refusal v b _ e (e ∙ rw (← es, lt-leb period (s .start) h, eq-eqb (s .theoretical) 0 z))
+  module _ (inside : s .start < period) where
+    pub test-no-time : s .theoretical ≡ 0 → Refused (record { number = 12; list = 2; place = i }) ≡ standardGround period earlier i s
+    unfolding standardGround
+    test-no-time z = rw (lt-leb period (s .start) inside, eq-eqb (s .theoretical) 0 z)
 
-  pub test-twice : (v : Verdict) (b : Bool) → v ≡ Refused (record { number = 13; list = 2; place = i }) → s .start < period → (s .theoretical ≡ 0 → ⊥) → true ≡ isAmong s (upTo at i)
-      → Tested period at i (record { verdict = v; rising = b })
-  unfolding standardGround
-  test-twice v b e h z a = refusal v b _ e (e ∙ rw (← es, lt-leb period (s .start) h, ne-eqb (s .theoretical) 0 z, ← a))
+    module _ (timed : s .theoretical ≡ 0 → ⊥) where
+      pub test-twice : true ≡ isAmong s earlier → Refused (record { number = 13; list = 2; place = i }) ≡ standardGround period earlier i s
+      unfolding standardGround
+      test-twice a = rw (lt-leb period (s .start) inside, ne-eqb (s .theoretical) 0 timed, ← a)
 
-  passes : s .start < period → (s .theoretical ≡ 0 → ⊥) → isAmong s (upTo at i) ≡ false → Accepted ≡ standardGround period (upTo at i) i (at i)
-  unfolding standardGround
-  passes h z a = rw (← es, lt-leb period (s .start) h, ne-eqb (s .theoretical) 0 z, a)
+      pub test-unsorted : false ≡ isAmong s earlier → standardNumber s < least → Refused (record { number = 19; list = 2; place = i }) ≡ standardGround period earlier i s
+      unfolding standardGround
+      test-unsorted a h = rw (lt-leb period (s .start) inside, ne-eqb (s .theoretical) 0 timed, ← a, q .next s fit, lt-leb least (standardNumber s) h)
 
-  pub test-passed : s .start < period → (s .theoretical ≡ 0 → ⊥) → false ≡ isAmong s (upTo at i) → Tested period at i (record { verdict = Accepted; rising = false })
-  test-passed h z a = record { answer = passes h z (sym a); rising = λ f g. let q : _≡_ {A = ℕ} 0 1 = cc in absurd (omega arith) }
-
-  -- later than the last of its recipe, where the starts rise, is later than all of them
-  module _ (up : Rising at i) (from : ℕ) (ef : from ≡ lastOf at (s .recipe) i) (new : 0 < from → at (pred from) .start < s .start) where
-    above : (j : ℕ) → j < i → at j .recipe ≡ s .recipe → at j .start < s .start
-    above j h o = go from ef new
-      where
-        go : (f : ℕ) → f ≡ lastOf at (s .recipe) i → (0 < f → at (pred f) .start < s .start) → at j .start < s .start
-        go zero e n = absurd (last-none at (s .recipe) i j h (omega arith) o)
-        go (suc k) e n =
-            let low : k < i = omega (arith, last-le at (s .recipe) i) in
-            let own : at k .recipe ≡ s .recipe = last-is at (s .recipe) i k (sym e) in
-            elim (decLt j k) [
-              | yes l ↦ omega (arith, up .rises j k l low (o ∙ sym own), n (omega arith))
-              | no l ↦ elim (ℕ-discrete j k) [ yes q ↦ rw q (n (omega arith)) | no q ↦ absurd (last-none at (s .recipe) i j h (omega (arith, q)) o) ]
-            ]
-
-    rises-more : Rising at (i + 1)
-    rises-more = record { rises = λ j k l h o. elim (ℕ-discrete k i) [ yes q ↦ rise-last j k q l o | no q ↦ up .rises j k l (omega (arith, q)) o ] }
-      where
-        rise-last : (j k : ℕ) → k ≡ i → j < k → at j .recipe ≡ at k .recipe → at j .start < at k .start
-        rise-last j k q l o =
-            let e : at k ≡ s = ap at q ∙ sym es in
-            rw e (above j (omega arith) (o ∙ ap (λ (x : Standard). x .recipe) e))
-
-    pub test-newest : s .start < period → (s .theoretical ≡ 0 → ⊥) → Tested period at i (record { verdict = Accepted; rising = true })
-    test-newest h z = record { answer = passes h z (among-none at s i (λ j l o e. omega (arith, above j l o))); rising = λ f g. rises-more }
+      pub test-passed : least ≤ standardNumber s → Accepted ≡ standardGround period earlier i s
+      unfolding standardGround
+      test-passed h =
+          let after = q .next s fit ∙ le-leb least (standardNumber s) h in
+          rw (lt-leb period (s .start) inside, ne-eqb (s .theoretical) 0 timed, not-among earlier s (q .rises) after, after)
 
 -- ---- one standard listed
 
@@ -188,43 +204,34 @@ abbrev tests : ℕ → (ℕ → Standard) → ℕ → Verdict
 tests period at i = standardGround period (upTo at i) i (at i)
 
 -- the first i were tested, passed and listed
-pub record ListedTo (period : ℕ) (at : ℕ → Standard) (n i : ℕ) (b : Bool) (E B L : List ℕ) : Type 0 where
+pub record ListedTo (period : ℕ) (at : ℕ → Standard) (n i least : ℕ) (E B L : List ℕ) : Type 0 where
   pub within : i ≤ n
   pub fine : firstOf (tests period at) i ≡ Accepted
-  pub rising : b ≡ true → Rising at i
+  pub sequenced : StandardsSequenced (upTo at i) least
   pub listing : Listing at i E B L
 
 module _ (period : ℕ) (at : ℕ → Standard) (n : ℕ) where
-  pub listed-none : (E B L : List ℕ) → Listing at 0 E B L → ListedTo period at n 0 true E B L
+  pub listed-none : (E B L : List ℕ) → Listing at 0 E B L → ListedTo period at n 0 0 E B L
+  unfolding upTo
   listed-none E B L l =
-      record { within = omega arith; fine = first-none (tests period at); rising = λ e. record { rises = λ i j h k. absurd (omega arith) }; listing = l }
+      record { within = omega arith; fine = first-none (tests period at); sequenced = sequenced-none standardKey standardNumber StandardFits; listing = l }
 
-  pub listed-step : (i : ℕ) (b : Bool) (E B L : List ℕ) → i < n → ListedTo period at n i b E B L → (r : Listed) (E′ B′ L′ : List ℕ) → Added period at i r E′ B′ L′
-      → r .verdict ≡ Accepted → ListedTo period at n (i + 1) (r .rising) E′ B′ L′
-  listed-step i b E B L h l r E′ B′ L′ a e =
-      record {
-        within = omega arith;
-        fine = first-more (tests period at) i (l .fine) (sym (a .tested .answer) ∙ e);
-        rising = a .tested .rising e;
-        listing = a .listing e;
-      }
+  pub listed-step : (i least : ℕ) (E B L : List ℕ) → i < n → ListedTo period at n i least E B L → (r : Verdict) (least′ : ℕ) (E′ B′ L′ : List ℕ) → Added period at i r least′ E′ B′ L′
+      → r ≡ Accepted → ListedTo period at n (i + 1) least′ E′ B′ L′
+  listed-step i least E B L h l r least′ E′ B′ L′ a e =
+      record { within = omega arith; fine = first-more (tests period at) i (l .fine) (sym (a .answer) ∙ e); sequenced = a .sequenced e; listing = a .listing e }
 
-  pub listed-stop : (i : ℕ) (b : Bool) (E B L : List ℕ) → i < n → ListedTo period at n i b E B L → (r : Listed) (E′ B′ L′ : List ℕ) → Added period at i r E′ B′ L′
-      → (x : Refusal) → r .verdict ≡ Refused x → AllListed period at n r E′ B′ L′
+  pub listed-stop : (i least : ℕ) (E B L : List ℕ) → i < n → ListedTo period at n i least E B L → (r : Verdict) (least′ : ℕ) (E′ B′ L′ : List ℕ) → Added period at i r least′ E′ B′ L′
+      → (x : Refusal) → r ≡ Refused x → AllListed period at n r E′ B′ L′
   unfolding standardGrounds
-  listed-stop i b E B L h l r E′ B′ L′ a x e =
+  listed-stop i least E B L h l r least′ E′ B′ L′ a x e =
       record {
-        answer = e ∙ sym (turn-range (standardGround period) at n ∙ first-stop (tests period at) n i x h (l .fine) (sym (a .tested .answer) ∙ e));
-        rising = λ f. absurd (refused-not (sym e ∙ f));
+        answer = e ∙ sym (turn-range (standardGround period) at n ∙ first-stop (tests period at) n i x h (l .fine) (sym (a .answer) ∙ e));
         listing = λ f. absurd (refused-not (sym e ∙ f));
       }
 
-  pub listed-all : (i : ℕ) (b : Bool) (E B L : List ℕ) → n ≤ i → ListedTo period at n i b E B L → AllListed period at n (record { verdict = Accepted; rising = b }) E B L
+  pub listed-all : (i least : ℕ) (E B L : List ℕ) → n ≤ i → ListedTo period at n i least E B L → AllListed period at n Accepted E B L
   unfolding standardGrounds
-  listed-all i b E B L h l =
+  listed-all i least E B L h l =
       let q : i ≡ n = omega (arith, l .within) in
-      record {
-        answer = sym (turn-range (standardGround period) at n ∙ rw q at (l .fine));
-        rising = λ e f. rw q at (l .rising f);
-        listing = λ e. rw q at (l .listing);
-      }
+      record { answer = sym (turn-range (standardGround period) at n ∙ rw q at (l .fine)); listing = λ e. rw q at (l .listing) }

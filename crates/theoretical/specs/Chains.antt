@@ -14,14 +14,10 @@ unfoldable pub lastOf : (ℕ → Standard) → ℕ → ℕ → ℕ
 lastOf at recipe zero = 0
 lastOf at recipe (suc n) = cond (eqb (at n .recipe) recipe) (suc n) (lastOf at recipe n)
 
--- the starts of each recipe rise in list sequence
-pub record Rising (at : ℕ → Standard) (n : ℕ) : Type 0 where
-  pub rises : (i j : ℕ) → i < j → j < n → at i .recipe ≡ at j .recipe → at i .start < at j .start
-
--- each standard has a time, which fits its field, and no two of a recipe have one start
-pub record TimedApart (at : ℕ → Standard) (n : ℕ) : Type 0 where
+-- each standard has a time, which fits its field, and the starts of each recipe rise
+pub record Proper (at : ℕ → Standard) (n : ℕ) : Type 0 where
   pub timed : (i : ℕ) → i < n → (0 < at i .theoretical) × (at i .theoretical < 2 ^ 27)
-  pub apart : (i j : ℕ) → i < j → j < n → at i .recipe ≡ at j .recipe → at i .start ≡ at j .start → ⊥
+  pub rises : (i j : ℕ) → i < j → j < n → at i .recipe ≡ at j .recipe → at i .start < at j .start
 
 -- a standard's start and theoretical time in one number, and 0 for none
 abbrev pub entryOf : Standard → ℕ

@@ -13,6 +13,7 @@ use Rattle.rules.specs.declared.Verdict.{Verdict}
 use Rattle.rules.specs.declared.Verdict.the-variants.{Accepted}
 use Rattle.rules.specs.Grounds.{ground, _then_}
 use Rattle.rules.specs.Theoretical.{theoreticalTime}
+use Rattle.rules.specs.Keys.{UnitsSequenced}
 use Rattle.rules.specs.RecordGrounds.{standardGrounds, unitGround, unitGrounds}
 
 -- the sums A and E of actual and of effective units
@@ -42,8 +43,9 @@ pub record SumsSoFar (ss : List Standard) (us : List UnitRecord) (i : ℕ) (A E 
   pub credited : Credited ss us A E
 
 -- unit record i tested, and credited where it passes
-pub record OneUnit (period modules : ℕ) (ss : List Standard) (at : ℕ → UnitRecord) (i : ℕ) (r : Verdict) (A E : List ℕ) : Type 0 where
+pub record OneUnit (period modules : ℕ) (ss : List Standard) (at : ℕ → UnitRecord) (i : ℕ) (r : Verdict) (least : ℕ) (A E : List ℕ) : Type 0 where
   pub answer : r ≡ unitGround period modules ss (upTo at i) i (at i)
+  pub sequenced : r ≡ Accepted → UnitsSequenced (upTo at (i + 1)) least
   pub summed : r ≡ Accepted → SumsSoFar ss (upTo at (i + 1)) (i + 1) A E
 
 -- all unit records tested and credited

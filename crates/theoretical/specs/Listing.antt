@@ -3,15 +3,15 @@
 -- Definitions only.
 use mathlib.Core.Path.{_≡_}
 use mathlib.Core.List.{List}
-use mathlib.Core.Bool.{true}
 use Prim.Native.Nat.{ℕ, _+_, _≤_, _<_}
 use lib.ListN.{length, getD}
 use Rattle.records.specs.declared.Standard.{Standard}
 use Rattle.records.specs.Log.{upTo}
+use Rattle.rules.specs.declared.Verdict.{Verdict}
 use Rattle.rules.specs.declared.Verdict.the-variants.{Accepted}
+use Rattle.rules.specs.Keys.{StandardsSequenced}
 use Rattle.rules.specs.RecordGrounds.{standardGround, standardGrounds}
-use Rattle.theoretical.specs.declared.Listed.{Listed}
-use Rattle.theoretical.specs.Chains.{lastOf, Rising, entryOf}
+use Rattle.theoretical.specs.Chains.{lastOf, entryOf}
 
 -- the chain of each recipe
 pub record Chained (at : ℕ → Standard) (n : ℕ) (E B : List ℕ) : Type 0 where
@@ -24,18 +24,13 @@ pub record Listing (at : ℕ → Standard) (n : ℕ) (E B L : List ℕ) : Type 0
   pub chained : Chained at n E B
   pub lasts : (recipe : ℕ) → recipe < 1024 → getD L recipe 0 ≡ lastOf at recipe n
 
--- standard i tested; whether the starts rise is told where it passes
-pub record Tested (period : ℕ) (at : ℕ → Standard) (i : ℕ) (r : Listed) : Type 0 where
-  pub answer : r .verdict ≡ standardGround period (upTo at i) i (at i)
-  pub rising : r .verdict ≡ Accepted → r .rising ≡ true → Rising at (i + 1)
-
 -- standard i tested, and listed where it passes
-pub record Added (period : ℕ) (at : ℕ → Standard) (i : ℕ) (r : Listed) (E B L : List ℕ) : Type 0 where
-  pub tested : Tested period at i r
-  pub listing : r .verdict ≡ Accepted → Listing at (i + 1) E B L
+pub record Added (period : ℕ) (at : ℕ → Standard) (i : ℕ) (r : Verdict) (least : ℕ) (E B L : List ℕ) : Type 0 where
+  pub answer : r ≡ standardGround period (upTo at i) i (at i)
+  pub sequenced : r ≡ Accepted → StandardsSequenced (upTo at (i + 1)) least
+  pub listing : r ≡ Accepted → Listing at (i + 1) E B L
 
 -- all n standards tested and listed
-pub record AllListed (period : ℕ) (at : ℕ → Standard) (n : ℕ) (r : Listed) (E B L : List ℕ) : Type 0 where
-  pub answer : r .verdict ≡ standardGrounds period (upTo at n)
-  pub rising : r .verdict ≡ Accepted → r .rising ≡ true → Rising at n
-  pub listing : r .verdict ≡ Accepted → Listing at n E B L
+pub record AllListed (period : ℕ) (at : ℕ → Standard) (n : ℕ) (r : Verdict) (E B L : List ℕ) : Type 0 where
+  pub answer : r ≡ standardGrounds period (upTo at n)
+  pub listing : r ≡ Accepted → Listing at n E B L

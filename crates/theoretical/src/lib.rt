@@ -1,14 +1,14 @@
 // Credits each unit with the theoretical time in force when it was made: the standards are tested and listed once, then the unit records are tested and summed.
 ghost use mathlib.Core.Path.{_≡_};
-ghost use mathlib.Core.Bool.{true};
 ghost use Prim.Native.Nat.{pred, _+_, _*_, _^_, _<_, _≤_};
 ghost use lib.ListN.{getD, set, replicate};
 ghost use Rattle.records.specs.Log.{upTo, standardAt, unitAt};
 ghost use Rattle.records.specs.Covers.{Covers};
 ghost use Rattle.rules.specs.Theoretical.{inForce};
-ghost use Rattle.rules.specs.RecordGrounds.{isAmong};
-ghost use Rattle.theoretical.specs.Chains.{lastOf, Rising, TimedApart, entryOf, entryIn, lookupOf};
-ghost use Rattle.theoretical.specs.Listing.{Chained, Listing, Tested, Added, AllListed};
+ghost use Rattle.rules.specs.Keys.{standardNumber, StandardFits, StandardsSequenced, unitNumber, UnitFits, UnitsSequenced};
+ghost use Rattle.rules.specs.RecordGrounds.{isAmong, standardGround};
+ghost use Rattle.theoretical.specs.Chains.{lastOf, Proper, entryOf, entryIn, lookupOf};
+ghost use Rattle.theoretical.specs.Listing.{Chained, Listing, Added, AllListed};
 ghost use Rattle.theoretical.specs.Credits.{ownGrounds, SumsSoFar, OneUnit, AllUnits, Units};
 use records::Header;
 use records::Standard;
@@ -20,12 +20,6 @@ use rules::Verdict;
 enum Lookup {
     Found(Standard),
     Nothing,
-}
-
-// The answer to the standards tested so far, and whether the starts of each recipe rise in list sequence.
-struct Listed {
-    verdict: Verdict,
-    rising: bool,
 }
 
 fn refused(number: usize, list: usize, place: usize) -> Verdict
@@ -55,22 +49,6 @@ fn entry_at(
     entries[link - 1]
 }
 
-// The start of the standard that a link leads to.
-fn start_of(
-    log: &[u8],
-    h: Header,
-    n: usize,
-    entries: &[u64; 512],
-    links: &[usize; 512],
-    link: usize,
-) -> u64
-    requires { ⌜ Chained (standardAt (now log) h) n (now entries) (now links) ⌝ }
-    requires { ⌜ (0 < link) × (link ≤ n) ⌝ }
-    ensures { λ r. ⌜ r ≡ standardAt (now (log .entry)) h (pred link) .start ⌝ }
-{
-    entry_at(log, h, n, entries, links, link) / 0x800_0000
-}
-
 // The link to the standard of the same recipe before it.
 fn link_before(
     log: &[u8],
@@ -87,30 +65,6 @@ fn link_before(
     links[link - 1]
 }
 
-// Whether one of the first n standards has this recipe and this start: a walk along the recipe's chain.
-fn is_listed(
-    log: &[u8],
-    h: Header,
-    n: usize,
-    entries: &[u64; 512],
-    links: &[usize; 512],
-    from: usize,
-    s: Standard,
-) -> bool
-    requires { ⌜ Chained (standardAt (now log) h) n (now entries) (now links) ⌝ }
-    requires { ⌜ from ≡ lastOf (standardAt (now log) h) (s .recipe) n ⌝ }
-    ensures { λ r. ⌜ r ≡ isAmong s (upTo (standardAt (now (log .entry)) h) n) ⌝ }
-{
-    let mut link = from;
-    while link != 0 {
-        if start_of(log, h, n, entries, links, link) == s.start {
-            return true;
-        }
-        link = link_before(log, h, n, entries, links, link);
-    }
-    false
-}
-
 // What the entries of the standards that have begun by a time are below.
 fn limit_of(time: u64) -> u64
     requires { ⌜ time < 2 ^ 35 ⌝ }
@@ -119,7 +73,7 @@ fn limit_of(time: u64) -> u64
     (time + 1) * 0x800_0000
 }
 
-// The entry of the standard in force where the starts rise, and 0 where none is: the first on the chain that has begun.
+// The entry of the standard in force, and 0 where none is: the first on the chain that has begun, since the starts rise.
 fn newest(
     log: &[u8],
     h: Header,
@@ -132,7 +86,7 @@ fn newest(
 ) -> u64
     requires { ⌜ Chained (standardAt (now log) h) n (now entries) (now links) ⌝ }
     requires { ⌜ (from ≡ lastOf (standardAt (now log) h) recipe n) × (time < 2 ^ 35) ⌝ }
-    requires { ⌜ Rising (standardAt (now log) h) n ⌝ }
+    requires { ⌜ Proper (standardAt (now log) h) n ⌝ }
     ensures { λ r. ⌜ r ≡ entryIn (inForce (upTo (standardAt (now (log .entry)) h) n) recipe time) ⌝ }
 {
     let limit = limit_of(time);
@@ -147,65 +101,6 @@ fn newest(
     0
 }
 
-// The greater of two entries, where the second is below the limit. Values and not branches, for the starts come in any sequence.
-fn later_entry(best: u64, entry: u64, limit: u64) -> u64
-    ensures { λ r. ⌜ (limit ≤ entry → r ≡ best) × (entry < limit → (best < entry → r ≡ entry) × (entry ≤ best → r ≡ best)) ⌝ }
-{
-    let begun = if entry < limit { entry } else { 0 };
-    if best < begun { begun } else { best }
-}
-
-// The entry of the standard in force, and 0 where none is, in lists in any sequence: the whole chain is walked.
-fn latest(
-    log: &[u8],
-    h: Header,
-    n: usize,
-    entries: &[u64; 512],
-    links: &[usize; 512],
-    from: usize,
-    recipe: usize,
-    time: u64,
-) -> u64
-    requires { ⌜ Chained (standardAt (now log) h) n (now entries) (now links) ⌝ }
-    requires { ⌜ (from ≡ lastOf (standardAt (now log) h) recipe n) × (time < 2 ^ 35) ⌝ }
-    requires { ⌜ TimedApart (standardAt (now log) h) n ⌝ }
-    ensures { λ r. ⌜ r ≡ entryIn (inForce (upTo (standardAt (now (log .entry)) h) n) recipe time) ⌝ }
-{
-    let limit = limit_of(time);
-    let mut best: u64 = 0;
-    let mut link = from;
-    while link != 0 {
-        let entry = entry_at(log, h, n, entries, links, link);
-        best = later_entry(best, entry, limit);
-        link = link_before(log, h, n, entries, links, link);
-    }
-    best
-}
-
-// The entry of the standard in force for a recipe at a time, and 0 where none is.
-fn entry_in_force(
-    log: &[u8],
-    h: Header,
-    n: usize,
-    entries: &[u64; 512],
-    links: &[usize; 512],
-    from: usize,
-    recipe: usize,
-    time: u64,
-    rising: bool,
-) -> u64
-    requires { ⌜ Chained (standardAt (now log) h) n (now entries) (now links) ⌝ }
-    requires { ⌜ (from ≡ lastOf (standardAt (now log) h) recipe n) × (time < 2 ^ 35) ⌝ }
-    requires { ⌜ (rising ≡ true → Rising (standardAt (now log) h) n) × TimedApart (standardAt (now log) h) n ⌝ }
-    ensures { λ r. ⌜ r ≡ entryIn (inForce (upTo (standardAt (now (log .entry)) h) n) recipe time) ⌝ }
-{
-    if rising {
-        newest(log, h, n, entries, links, from, recipe, time)
-    } else {
-        latest(log, h, n, entries, links, from, recipe, time)
-    }
-}
-
 // The standard in force for a recipe at a time, or none.
 fn look_up(
     log: &[u8],
@@ -214,17 +109,16 @@ fn look_up(
     entries: &[u64; 512],
     links: &[usize; 512],
     last: &[usize; 1024],
-    rising: bool,
     recipe: usize,
     time: u64,
 ) -> Lookup
     requires { ⌜ Listing (standardAt (now log) h) n (now entries) (now links) (now last) ⌝ }
-    requires { ⌜ (rising ≡ true → Rising (standardAt (now log) h) n) × TimedApart (standardAt (now log) h) n ⌝ }
+    requires { ⌜ Proper (standardAt (now log) h) n ⌝ }
     requires { ⌜ (recipe < 1024) × (time < 2 ^ 35) ⌝ }
     ensures { λ r. ⌜ r ≡ lookupOf (inForce (upTo (standardAt (now (log .entry)) h) n) recipe time) ⌝ }
 {
     let from = last[recipe];
-    let entry = entry_in_force(log, h, n, entries, links, from, recipe, time, rising);
+    let entry = newest(log, h, n, entries, links, from, recipe, time);
     if entry == 0 {
         return Lookup::Nothing;
     }
@@ -235,66 +129,50 @@ fn look_up(
     })
 }
 
-// Whether a start is later than that of every earlier standard of its recipe, where the starts rise.
-fn is_newest(
-    log: &[u8],
-    h: Header,
-    n: usize,
-    entries: &[u64; 512],
-    links: &[usize; 512],
-    from: usize,
-    start: u64,
-) -> bool
-    requires { ⌜ Chained (standardAt (now log) h) n (now entries) (now links) ⌝ }
-    requires { ⌜ from ≤ n ⌝ }
-    ensures { λ r. ⌜ (r ≡ true → (0 < from → standardAt (now (log .entry)) h (pred from) .start < start)) ⌝ }
+// A standard's recipe and start in one number, by which standards ascend.
+fn standard_number(s: Standard) -> u64
+    requires { ⌜ StandardFits s ⌝ }
+    ensures { λ n. ⌜ n ≡ standardNumber s ⌝ }
 {
-    if from == 0 {
-        return true;
-    }
-    start_of(log, h, n, entries, links, from) < start
+    s.recipe as u64 * 0x8_0000_0000 + s.start
 }
 
-// Standard i tested for 9, 12 and 13.
-fn test_standard(
-    log: &[u8],
-    h: Header,
-    i: usize,
-    entries: &[u64; 512],
-    links: &[usize; 512],
-    from: usize,
-    rising: bool,
-    s: Standard,
-) -> Listed
-    requires { ⌜ Chained (standardAt (now log) h) i (now entries) (now links) ⌝ }
-    requires { ⌜ (s ≡ standardAt (now log) h i) × (from ≡ lastOf (standardAt (now log) h) (s .recipe) i) ⌝ }
-    requires { ⌜ (rising ≡ true → Rising (standardAt (now log) h) i) ⌝ }
-    ensures { λ r. ⌜ Tested (h .period) (standardAt (now (log .entry)) h) i r ⌝ }
+// Whether one of the first n standards has this recipe and this start.
+fn is_listed(log: &[u8], h: Header, n: usize, s: Standard) -> bool
+    requires { ⌜ StandardFits s ⌝ }
+    requires { ⌜ Covers (now log) (10 + 6 * h .states + 9 * n) ⌝ }
+    ensures { λ r. ⌜ r ≡ isAmong s (upTo (standardAt (now (log .entry)) h) n) ⌝ }
 {
-    if h.period <= s.start {
-        let verdict = refused(9, 2, i);
-        return Listed { verdict, rising };
-    }
-    if s.theoretical == 0 {
-        let verdict = refused(12, 2, i);
-        return Listed { verdict, rising };
-    }
-    if rising {
-        if is_newest(log, h, i, entries, links, from, s.start) {
-            return Listed {
-                verdict: Verdict::Accepted,
-                rising: true,
-            };
+    let number = standard_number(s);
+    for j in 0..n {
+        let e = records::standard_within(log, h, j);
+        if standard_number(e) == number {
+            return true;
         }
     }
-    if is_listed(log, h, i, entries, links, from, s) {
-        let verdict = refused(13, 2, i);
-        return Listed { verdict, rising };
+    false
+}
+
+// Standard i tested for 9, 12, 13 and 19. `least` is the least number that it may have after those before it, which rise: at or above it no search is needed,
+// and below it one search tells 13 from 19.
+fn test_standard(log: &[u8], h: Header, i: usize, least: u64, s: Standard) -> Verdict
+    requires { ⌜ (s ≡ standardAt (now log) h i) × StandardsSequenced (upTo (standardAt (now log) h) i) least ⌝ }
+    requires { ⌜ Covers (now log) (10 + 6 * h .states + 9 * i) ⌝ }
+    ensures { λ r. ⌜ r ≡ standardGround (h .period) (upTo (standardAt (now (log .entry)) h) i) i s ⌝ }
+{
+    if h.period <= s.start {
+        return refused(9, 2, i);
     }
-    Listed {
-        verdict: Verdict::Accepted,
-        rising: false,
+    if s.theoretical == 0 {
+        return refused(12, 2, i);
     }
+    if standard_number(s) < least {
+        if is_listed(log, h, i, s) {
+            return refused(13, 2, i);
+        }
+        return refused(19, 2, i);
+    }
+    Verdict::Accepted
 }
 
 // Standard i put into the arrays, behind the last one of its recipe.
@@ -322,25 +200,24 @@ fn list_standard(
     log: &[u8],
     h: Header,
     i: usize,
+    least: &mut u64,
     entries: &mut [u64; 512],
     links: &mut [usize; 512],
     last: &mut [usize; 1024],
-    rising: bool,
-) -> Listed
+) -> Verdict
+    requires { ⌜ StandardsSequenced (upTo (standardAt (now log) h) i) (now least) ⌝ }
     requires { ⌜ Listing (standardAt (now log) h) i (now entries) (now links) (now last) ⌝ }
-    requires { ⌜ (rising ≡ true → Rising (standardAt (now log) h) i) ⌝ }
     requires { ⌜ (i < 512) × Covers (now log) (10 + 6 * h .states + 9 * i + 9) ⌝ }
-    ensures { λ r. ⌜ Added (h .period) (standardAt (now (log .entry)) h) i r (now (entries .exit)) (now (links .exit)) (now (last .exit)) ⌝ }
+    ensures { λ r. ⌜ Added (h .period) (standardAt (now (log .entry)) h) i r (now (least .exit)) (now (entries .exit)) (now (links .exit)) (now (last .exit)) ⌝ }
 {
     let s = records::standard_within(log, h, i);
-    let recipe = s.recipe;
-    let from = last[recipe];
-    let tested = test_standard(log, h, i, entries, links, from, rising, s);
-    let verdict = tested.verdict;
-    if let Verdict::Accepted = verdict {
-        store_standard(log, h, i, entries, links, last, s);
+    let verdict = test_standard(log, h, i, *least, s);
+    if let Verdict::Refused(_) = verdict {
+        return verdict;
     }
-    tested
+    *least = standard_number(s) + 1;
+    store_standard(log, h, i, entries, links, last, s);
+    Verdict::Accepted
 }
 
 // All standards, one by one, up to the first that is refused.
@@ -350,25 +227,20 @@ fn list_standards(
     entries: &mut [u64; 512],
     links: &mut [usize; 512],
     last: &mut [usize; 1024],
-) -> Listed
+) -> Verdict
     requires { ⌜ (h .standards ≤ 512) × Covers (now log) (10 + 6 * h .states + 9 * h .standards) ⌝ }
     requires { ⌜ Listing (standardAt (now log) h) 0 (now entries) (now links) (now last) ⌝ }
     ensures { λ r. ⌜ AllListed (h .period) (standardAt (now (log .entry)) h) (h .standards) r (now (entries .exit)) (now (links .exit)) (now (last .exit)) ⌝ }
 {
-    let mut rising = true;
+    let mut least = 0;
     let n = h.standards;
     for i in 0..n {
-        let added = list_standard(log, h, i, entries, links, last, rising);
-        let verdict = added.verdict;
+        let verdict = list_standard(log, h, i, &mut least, entries, links, last);
         if let Verdict::Refused(_) = verdict {
-            return added;
+            return verdict;
         }
-        rising = added.rising;
     }
-    Listed {
-        verdict: Verdict::Accepted,
-        rising,
-    }
+    Verdict::Accepted
 }
 
 // A unit record tested for 6, 7, 9 and 14, which look at it alone.
@@ -390,6 +262,14 @@ fn test_unit(h: Header, i: usize, u: UnitRecord) -> Verdict
     Verdict::Accepted
 }
 
+// A unit record's time, module and recipe in one number, by which unit records ascend.
+fn unit_number(u: UnitRecord) -> u64
+    requires { ⌜ UnitFits u ⌝ }
+    ensures { λ n. ⌜ n ≡ unitNumber u ⌝ }
+{
+    (u.time * 64 + u.module as u64) * 1024 + u.recipe as u64
+}
+
 // The sum of module m grows by the theoretical time for these units.
 fn credit(sums: &mut [u64; 64], m: usize, units: u64, theoretical: u64)
     requires { ⌜ (m < 64) × (units < 65536) × (theoretical < 134217728) × (getD (now sums) m 0 < 2 ^ 63) ⌝ }
@@ -398,7 +278,7 @@ fn credit(sums: &mut [u64; 64], m: usize, units: u64, theoretical: u64)
     sums[m] = sums[m] + units * theoretical;
 }
 
-// Unit record i tested, and its units credited to its module where it passes.
+// Unit record i tested, and its units credited to its module where it passes. `least` is the least number that it may have after those before it.
 fn credit_unit(
     log: &[u8],
     h: Header,
@@ -406,15 +286,16 @@ fn credit_unit(
     entries: &[u64; 512],
     links: &[usize; 512],
     last: &[usize; 1024],
-    rising: bool,
+    least: &mut u64,
     actual: &mut [u64; 64],
     effective: &mut [u64; 64],
 ) -> Verdict
     requires { ⌜ Listing (standardAt (now log) h) (h .standards) (now entries) (now links) (now last) ⌝ }
-    requires { ⌜ (rising ≡ true → Rising (standardAt (now log) h) (h .standards)) × TimedApart (standardAt (now log) h) (h .standards) ⌝ }
+    requires { ⌜ Proper (standardAt (now log) h) (h .standards) ⌝ }
+    requires { ⌜ UnitsSequenced (upTo (unitAt (now log) h) i) (now least) ⌝ }
     requires { ⌜ SumsSoFar (upTo (standardAt (now log) h) (h .standards)) (upTo (unitAt (now log) h) i) i (now actual) (now effective) ⌝ }
     requires { ⌜ (i < 2000) × Covers (now log) (10 + 6 * h .states + 9 * h .standards + 11 * i + 11) ⌝ }
-    ensures { λ r. ⌜ OneUnit (h .period) (h .modules) (upTo (standardAt (now (log .entry)) h) (h .standards)) (unitAt (now (log .entry)) h) i r (now (actual .exit)) (now (effective .exit)) ⌝ }
+    ensures { λ r. ⌜ OneUnit (h .period) (h .modules) (upTo (standardAt (now (log .entry)) h) (h .standards)) (unitAt (now (log .entry)) h) i r (now (least .exit)) (now (actual .exit)) (now (effective .exit)) ⌝ }
 {
     let u = records::unit_within(log, h, i);
     let own = test_unit(h, i, u);
@@ -422,9 +303,14 @@ fn credit_unit(
         return own;
     }
     let n = h.standards;
-    let Lookup::Found(s) = look_up(log, h, n, entries, links, last, rising, u.recipe, u.time) else {
+    let Lookup::Found(s) = look_up(log, h, n, entries, links, last, u.recipe, u.time) else {
         return refused(15, 3, i);
     };
+    let number = unit_number(u);
+    if number < *least {
+        return refused(19, 3, i);
+    }
+    *least = number + 1;
     let m = u.module;
     credit(actual, m, u.actual, s.theoretical);
     credit(effective, m, u.effective, s.theoretical);
@@ -438,19 +324,21 @@ fn credit_listed(
     entries: &[u64; 512],
     links: &[usize; 512],
     last: &[usize; 1024],
-    rising: bool,
     actual: &mut [u64; 64],
     effective: &mut [u64; 64],
 ) -> Verdict
     requires { ⌜ Listing (standardAt (now log) h) (h .standards) (now entries) (now links) (now last) ⌝ }
-    requires { ⌜ (rising ≡ true → Rising (standardAt (now log) h) (h .standards)) × TimedApart (standardAt (now log) h) (h .standards) ⌝ }
+    requires { ⌜ Proper (standardAt (now log) h) (h .standards) ⌝ }
     requires { ⌜ SumsSoFar (upTo (standardAt (now log) h) (h .standards)) (upTo (unitAt (now log) h) 0) 0 (now actual) (now effective) ⌝ }
     requires { ⌜ (h .units ≤ 2000) × Covers (now log) (10 + 6 * h .states + 9 * h .standards + 11 * h .units) ⌝ }
     ensures { λ r. ⌜ AllUnits (h .period) (h .modules) (upTo (standardAt (now (log .entry)) h) (h .standards)) (upTo (unitAt (now (log .entry)) h) (h .units)) r (now (actual .exit)) (now (effective .exit)) ⌝ }
 {
+    let mut least = 0;
     let n = h.units;
     for i in 0..n {
-        let verdict = credit_unit(log, h, i, entries, links, last, rising, actual, effective);
+        let verdict = credit_unit(
+            log, h, i, entries, links, last, &mut least, actual, effective,
+        );
         if let Verdict::Refused(_) = verdict {
             return verdict;
         }
@@ -473,19 +361,9 @@ pub fn credit_units(
     let mut entries = [0u64; 512];
     let mut links = [0usize; 512];
     let mut last = [0usize; 1024];
-    let listed = list_standards(log, h, &mut entries, &mut links, &mut last);
-    let verdict = listed.verdict;
+    let verdict = list_standards(log, h, &mut entries, &mut links, &mut last);
     if let Verdict::Refused(_) = verdict {
         return verdict;
     }
-    credit_listed(
-        log,
-        h,
-        &entries,
-        &links,
-        &last,
-        listed.rising,
-        actual,
-        effective,
-    )
+    credit_listed(log, h, &entries, &links, &last, actual, effective)
 }

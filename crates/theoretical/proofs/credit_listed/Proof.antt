@@ -10,11 +10,11 @@ use Rattle.theoretical.proofs.credit_listed.Statement.{statement}
 use Rattle.theoretical.proofs.credit_listed.Tie as tie
 
 abbrev Inv-loop : tie.InvT-loop
-Inv-loop log h entries links last rising actual₀ effective₀ n i₀ actual effective i =
-    (n ≡ h .units) × CreditedTo (h .period) (h .modules) (upTo (standardAt log h) (h .standards)) (unitAt log h) n i actual effective
+Inv-loop log h entries links last actual₀ effective₀ least₀ n i₀ actual effective least i =
+    (n ≡ h .units) × CreditedTo (h .period) (h .modules) (upTo (standardAt log h) (h .standards)) (unitAt log h) n i least actual effective
 
 abbrev μ-loop : tie.MeasureT-loop
-μ-loop log h entries links last rising actual₀ effective₀ n i₀ actual effective i = n - i
+μ-loop log h entries links last actual₀ effective₀ least₀ n i₀ actual effective least i = n - i
 
 loop-holds : tie.Need-loop-holds Inv-loop μ-loop
 loop-holds c =
@@ -24,33 +24,34 @@ loop-holds c =
 
 credit-unit-requires : tie.Need-credit-unit-requires Inv-loop μ-loop
 credit-unit-requires c κs =
-    let s = c .before .before .before .before .before in
-    let l = c .before .before .before .loop in
-    (s .pre .0, (s .pre .1 .0, (l .inv .1 .summed, (omega (arith, c .before .before .loop-test .taken, s .pre .1 .1 .1 .0), (omega (arith, c .before .before .loop-test .taken, s .pre .1 .1 .1 .1 .0), s .pre .1 .1 .1 .1 .1)))))
+    let s = c .before .before .before .before .before .before in
+    let t = c .before .before .before .loop-test .taken in
+    let l = c .before .before .before .before .loop .inv .1 in
+    (s .pre .0, (s .pre .1 .0, (l .sequenced, (l .summed, (omega (arith, t, s .pre .1 .1 .1 .0), (omega (arith, t, s .pre .1 .1 .1 .1 .0), s .pre .1 .1 .1 .1 .1))))))
 
 returns : tie.Need-returns Inv-loop μ-loop
 returns c =
-    let a = c .before .before .before .before .before .before .before .before .args in
-    let l = c .before .before .before .before .before .before .loop in
+    let a = c .before .before .before .before .before .before .before .before .before .args in
+    let l = c .before .before .before .before .before .before .before .loop in
     let r = c .before .before .credit-unit in
-    credited-stop (a .h .period) (a .h .modules) (upTo (standardAt (a .log .now) (a .h)) (a .h .standards)) (unitAt (a .log .now) (a .h)) (a .h .units) (l .i) (l .actual) (l .effective) (c .before .before .before .before .before .loop-test .taken) (l .inv .1)
-    (r .result) (r .last .1 .1 .1 .1 .1 .1 .1 .0) (r .last .1 .1 .1 .1 .1 .1 .1 .1 .0) (r .ensures) _ (c .enum-told .given .1)
+    credited-stop (a .h .period) (a .h .modules) (upTo (standardAt (a .log .now) (a .h)) (a .h .standards)) (unitAt (a .log .now) (a .h)) (a .h .units) (l .i) (l .least) (l .actual) (l .effective) (c .before .before .before .before .before .before .loop-test .taken) (l .inv .1)
+    (r .result) (r .last .1 .1 .1 .1 .1 .1 .0) (r .last .1 .1 .1 .1 .1 .1 .1 .0) (r .last .1 .1 .1 .1 .1 .1 .1 .1 .0) (r .ensures) _ (c .enum-told .given .1)
 
 loop-again : tie.Need-loop-again Inv-loop μ-loop
 loop-again c =
-    let a = c .before .before .before .before .before .before .before .before .args in
-    let l = c .before .before .before .before .before .before .loop in
+    let a = c .before .before .before .before .before .before .before .before .before .args in
+    let l = c .before .before .before .before .before .before .before .loop in
     let r = c .before .before .credit-unit in (
       refl,
-      credited-step (a .h .period) (a .h .modules) (upTo (standardAt (a .log .now) (a .h)) (a .h .standards)) (unitAt (a .log .now) (a .h)) (a .h .units) (l .i) (l .actual) (l .effective) (c .before .before .before .before .before .loop-test .taken) (l .inv .1)
-          (r .result) (r .last .1 .1 .1 .1 .1 .1 .1 .0) (r .last .1 .1 .1 .1 .1 .1 .1 .1 .0) (r .ensures) (c .enum-told2 .given .1),
+      credited-step (a .h .period) (a .h .modules) (upTo (standardAt (a .log .now) (a .h)) (a .h .standards)) (unitAt (a .log .now) (a .h)) (a .h .units) (l .i) (l .least) (l .actual) (l .effective) (c .before .before .before .before .before .before .loop-test .taken) (l .inv .1)
+          (r .result) (r .last .1 .1 .1 .1 .1 .1 .0) (r .last .1 .1 .1 .1 .1 .1 .1 .0) (r .last .1 .1 .1 .1 .1 .1 .1 .1 .0) (r .ensures) (c .enum-told2 .given .1),
     )
 
 returns-2 : tie.Need-returns-2 Inv-loop μ-loop
 returns-2 c =
     let l = c .before .loop in
     let a = c .before .before .before .args in
-    credited-all (a .h .period) (a .h .modules) (upTo (standardAt (a .log .now) (a .h)) (a .h .standards)) (unitAt (a .log .now) (a .h)) (a .h .units) (l .i) (l .actual) (l .effective) (c .loop-test .left) (l .inv .1)
+    credited-all (a .h .period) (a .h .modules) (upTo (standardAt (a .log .now) (a .h)) (a .h .standards)) (unitAt (a .log .now) (a .h)) (a .h .units) (l .i) (l .least) (l .actual) (l .effective) (c .loop-test .left) (l .inv .1)
 
 pub credit-listed-spec : {M : Type 1} → statement M
 credit-listed-spec =
@@ -63,7 +64,7 @@ credit-listed-spec =
     (λ c. search needs)
     returns
     (λ c. search needs)
-    (λ c. omega (arith, c .before .before .before .before .before .loop-test .taken, c .before .before .before .before .before .before .before .before .pre .1 .1 .1 .0))
-    (λ c. omega (arith, c .before .before .before .before .before .loop-test .taken))
+    (λ c. omega (arith, c .before .before .before .before .before .before .loop-test .taken, c .before .before .before .before .before .before .before .before .before .pre .1 .1 .1 .0))
+    (λ c. omega (arith, c .before .before .before .before .before .before .loop-test .taken))
     loop-again
     returns-2)

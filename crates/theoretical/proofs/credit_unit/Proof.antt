@@ -1,4 +1,4 @@
--- `theoretical::credit_unit` meets its contract: the record's own tests, then whether a standard is in force, decide; its units are credited by that standard.
+-- `theoretical::credit_unit` meets its contract: the record's own tests, then whether a standard is in force, then its sequence decide; its units are credited by that standard.
 -- Assumes nothing.
 use borrow.Author.Needs.{needs}
 use mathlib.Core.Path.{_≡_, refl, sym, ap, _∙_}
@@ -11,11 +11,12 @@ use Rattle.records.specs.declared.Standard.{Standard}
 use Rattle.records.specs.declared.UnitRecord.{UnitRecord}
 use Rattle.records.specs.Log.{upTo, standardAt, unitAt}
 use Rattle.records.proofs.Widths.{standard-fits, unit-fits}
+use Rattle.rules.specs.Keys.{UnitFits}
 use Rattle.rules.specs.Theoretical.{inForce, Answers}
 use Rattle.rules.proofs.InForce.{in-force}
 use Rattle.theoretical.specs.declared.Lookup.the-variants.{Found, Nothing}
 use Rattle.theoretical.specs.Chains.{lookupOf}
-use Rattle.theoretical.proofs.Crediting.{unit-own, unit-none, unit-credited}
+use Rattle.theoretical.proofs.Crediting.{unit-own, unit-none, unit-unsorted, unit-credited}
 use Rattle.theoretical.proofs.credit_unit.Statement.{statement}
 use Rattle.theoretical.proofs.credit_unit.Tie as tie
 
@@ -47,11 +48,10 @@ short s h n recipe time x e = go (inForce (upTo (standardAt s h) n) recipe time)
 
 returns : tie.Need-returns
 returns c =
-    let s = c .before .before .before .before .before in
-    let a = s .args in
+    let a = c .before .before .before .before .before .args in
     let r = c .before .before in
     unit-own (a .h .period) (a .h .modules) (upTo (standardAt (a .log .now) (a .h)) (a .h .standards)) (unitAt (a .log .now) (a .h)) (a .i) (r .before .unit-within .result) (r .before .unit-within .ensures)
-    (r .test-unit .result) (r .test-unit .ensures) _ (c .enum-told .given .1) (a .actual .now) (a .effective .now)
+    (r .test-unit .result) (r .test-unit .ensures) _ (c .enum-told .given .1) (a .least .now) (a .actual .now) (a .effective .now)
 
 look-up-requires : tie.Need-look-up-requires
 look-up-requires c κs =
@@ -63,13 +63,11 @@ look-up-requires c κs =
 
 returns-2 : tie.Need-returns-2
 returns-2 c =
-    let s = c .before .before .before .before .before .before .before .before .before in
-    let a = s .args in
+    let a = c .before .before .before .before .before .before .before .before .before .args in
     let r = c .before .before .before .before .before .before in
     let u = r .before .unit-within in
-    let l = c .before .before .before .look-up in
     unit-none (a .h .period) (a .h .modules) (upTo (standardAt (a .log .now) (a .h)) (a .h .standards)) (unitAt (a .log .now) (a .h)) (a .i) (u .result) (u .ensures) (r .test-unit .result) (r .test-unit .ensures)
-    (c .before .before .before .before .enum-told2 .given .1) (none-is _ (sym (c .before .enum-told3 .given .1) ∙ l .ensures)) (c .refused .result) (c .refused .ensures) (a .actual .now) (a .effective .now)
+    (c .before .before .before .before .enum-told2 .given .1) (none-is _ (sym (c .before .enum-told3 .given .1) ∙ c .before .before .before .look-up .ensures)) (c .refused .result) (c .refused .ensures) (a .least .now) (a .actual .now) (a .effective .now)
 
 -- where the lookup found a standard
 in-force-there : (c : tie.After-s)
@@ -82,32 +80,53 @@ short-there c =
     let u = c .before .before .before .before .before .before .unit-within .result in
     short (a .log .now) (a .h) (a .h .standards) (u .recipe) (u .time) (c .s .given .0 .0) (in-force-there c)
 
-credit-requires : tie.Need-credit-requires
-credit-requires c κs =
-    let s = c .before .before .before .before .before .before .before .before .before .before in
-    let a = s .args in
-    let u = c .before .before .before .before .before .before .before .before .unit-within in
+fits : (c : tie.After-s) → UnitFits (c .before .before .before .before .before .before .unit-within .result)
+fits c =
+    let a = c .before .before .before .before .before .before .before .before .args in
+    let u = c .before .before .before .before .before .before .unit-within in
     let w = widths (a .log .now) (a .h) (a .i) (u .result) (u .ensures) in
-    (w .0, omega (arith, w .3, w .4), short-there (c .before .before), omega (arith, s .pre .1 .1 .0 .low (u .result .«module») (w .0) .0, s .pre .1 .1 .1 .0))
-
-credit-requires-2 : tie.Need-credit-requires-2
-credit-requires-2 c κs =
-    let s = c .before .before .before .before .before .before .before .before .before .before .before .before in
-    let a = s .args in
-    let u = c .before .before .before .before .before .before .before .before .before .before .unit-within in
-    let w = widths (a .log .now) (a .h) (a .i) (u .result) (u .ensures) in
-    (w .0, omega (arith, w .3, w .4), short-there (c .before .before .before .before), omega (arith, s .pre .1 .1 .0 .low (u .result .«module») (w .0) .1, s .pre .1 .1 .1 .0))
+    (w .0, w .1, w .2)
 
 returns-3 : tie.Need-returns-3
 returns-3 c =
+    let f = c .before .before .before .before .before in
+    let s = f .before .before .before .before .before .before .before .before in
+    let a = s .args in
+    let u = f .before .before .before .before .before .before .unit-within in
+    let t = f .before .before .before .before .before .test-unit in
+    unit-unsorted (a .h .period) (a .h .modules) (upTo (standardAt (a .log .now) (a .h)) (a .h .standards)) (unitAt (a .log .now) (a .h)) (a .i) (u .result) (u .ensures) (t .result) (t .ensures)
+    (f .before .before .before .enum-told2 .given .1) (f .s .given .0 .0) (in-force-there f) (a .least .now) (s .pre .1 .1 .0) (fits f) (omega (arith, c .before .if1 .taken, c .before .before .before .unit-number .ensures))
+    (c .refused2 .result) (c .refused2 .ensures) (a .least .now) (a .actual .now) (a .effective .now)
+
+credit-requires : tie.Need-credit-requires
+credit-requires c κs =
     let s = c .before .before .before .before .before .before .before .before .before .before .before .before .before in
     let a = s .args in
-    let f = c .before .before .before .before .before in
-    let u = f .before .before .before .before .before .before .unit-within in
+    let u = c .before .before .before .before .before .before .before .before .before .before .before .unit-within in
     let w = widths (a .log .now) (a .h) (a .i) (u .result) (u .ensures) in
-    unit-credited (a .h .period) (a .h .modules) (upTo (standardAt (a .log .now) (a .h)) (a .h .standards)) (unitAt (a .log .now) (a .h)) (a .i) (u .result) (u .ensures)
-    (f .before .before .before .before .before .test-unit .result) (f .before .before .before .before .before .test-unit .ensures) (f .before .before .before .enum-told2 .given .1) (f .s .given .0 .0) (in-force-there f) (w .0) (w .3) (w .4) (short-there f)
-    (a .actual .now) (a .effective .now) (s .pre .1 .1 .0) (c .before .before .credit .last .0) (c .credit2 .last .0) (c .before .before .credit .ensures) (c .credit2 .ensures)
+    (w .0, omega (arith, w .3, w .4), short-there (c .before .before .before .before .before), omega (arith, s .pre .1 .1 .1 .0 .low (u .result .«module») (w .0) .0, s .pre .1 .1 .1 .1 .0))
+
+credit-requires-2 : tie.Need-credit-requires-2
+credit-requires-2 c κs =
+    let s = c .before .before .before .before .before .before .before .before .before .before .before .before .before .before .before in
+    let a = s .args in
+    let u = c .before .before .before .before .before .before .before .before .before .before .before .before .before .unit-within in
+    let w = widths (a .log .now) (a .h) (a .i) (u .result) (u .ensures) in
+    (w .0, omega (arith, w .3, w .4), short-there (c .before .before .before .before .before .before .before), omega (arith, s .pre .1 .1 .1 .0 .low (u .result .«module») (w .0) .1, s .pre .1 .1 .1 .1 .0))
+
+returns-4 : tie.Need-returns-4
+returns-4 c =
+    let f = c .before .before .before .before .before .before .before .before in
+    let s = f .before .before .before .before .before .before .before .before in
+    let a = s .args in
+    let u = f .before .before .before .before .before .before .unit-within in
+    let t = f .before .before .before .before .before .test-unit in
+    let n = c .before .before .before .before .before .before .unit-number in
+    let w = widths (a .log .now) (a .h) (a .i) (u .result) (u .ensures) in
+    unit-credited (a .h .period) (a .h .modules) (upTo (standardAt (a .log .now) (a .h)) (a .h .standards)) (unitAt (a .log .now) (a .h)) (a .i) (u .result) (u .ensures) (t .result) (t .ensures)
+    (f .before .before .before .enum-told2 .given .1) (f .s .given .0 .0) (in-force-there f) (a .least .now) (s .pre .1 .1 .0) (fits f) (omega (arith, c .before .before .before .before .if1 .left, n .ensures))
+    (w .3) (w .4) (short-there f) (a .actual .now) (a .effective .now) (s .pre .1 .1 .1 .0)
+    (n .result + 1) (c .before .before .credit .last .0) (c .credit2 .last .0) (rw (n .ensures)) (c .before .before .credit .ensures) (c .credit2 .ensures)
 
 pub credit-unit-spec : {M : Type 1} → statement M
 credit-unit-spec =
@@ -123,6 +142,10 @@ credit-unit-spec =
     (λ c. search needs)
     (λ c κs. search needs)
     returns-2
+    (λ c κs. fits (c .before))
+    (λ c κs. search needs)
+    returns-3
+    (λ c. omega (arith, fits (c .before .before .before .before), c .before .before .unit-number .ensures))
     credit-requires
     credit-requires-2
-    returns-3)
+    returns-4)

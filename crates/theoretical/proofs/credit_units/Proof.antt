@@ -8,7 +8,7 @@ use Rattle.rules.specs.declared.Verdict.{Verdict}
 use Rattle.rules.specs.Grounds.{_then_}
 use Rattle.rules.specs.RecordGrounds.{unitGrounds}
 use Rattle.rules.proofs.FirstGround.{refused-not}
-use Rattle.theoretical.proofs.Listings.{time-low, timed-apart, listing-none}
+use Rattle.theoretical.proofs.Listings.{time-low, proper, listing-none}
 use Rattle.theoretical.proofs.Crediting.{summed-none}
 use Rattle.theoretical.proofs.credit_units.Statement.{statement}
 use Rattle.theoretical.proofs.credit_units.Tie as tie
@@ -30,25 +30,20 @@ returns c =
 
 credit-listed-requires : tie.Need-credit-listed-requires
 credit-listed-requires c κs =
-    let t = c .before .before .before .before .before in
-    let r = t .before .before in
-    let s = r .before .before .before .before .before in
+    let s = c .before .before .before .before .before .before .before .before .before .before .before .before in
     let a = s .args in
-    let l = r .list-standards .ensures in
-    let fine = t .enum-told2 .given .1 in
-    let proper = timed-apart (a .h .period) (standardAt (a .log .now) (a .h)) (a .h .standards) (time-low (a .log .now) (a .h)) (sym (l .answer) ∙ fine) in
-    (l .listing fine, ((l .rising fine, proper), (summed-none _ _ _ _ (s .pre .1 .0) (s .pre .1 .1), (s .pre .0 .1, s .pre .0 .2))))
+    let l = c .before .before .before .before .before .before .before .list-standards .ensures in
+    let fine = c .before .before .before .before .before .enum-told2 .given .1 in
+    let standards = proper (a .h .period) (standardAt (a .log .now) (a .h)) (a .h .standards) (time-low (a .log .now) (a .h)) (sym (l .answer) ∙ fine) in
+    (l .listing fine, (standards, (summed-none _ _ _ _ (s .pre .1 .0) (s .pre .1 .1), (s .pre .0 .1, s .pre .0 .2))))
 
 returns-2 : tie.Need-returns-2
 returns-2 c =
-    let t = c .before .before .before .before .before .before in
-    let r = t .before .before in
-    let a = r .before .before .before .before .before .args in
-    let l = r .list-standards in
+    let a = c .before .before .before .before .before .before .before .before .before .before .before .before .before .args in
+    let l = c .before .before .before .before .before .before .before .before .list-standards in
     let us = unitGrounds (a .h .period) (a .h .modules) (upTo (standardAt (a .log .now) (a .h)) (a .h .standards)) (upTo (unitAt (a .log .now) (a .h)) (a .h .units)) in
-    let fine = t .enum-told2 .given .1 in
     record {
-      answer = c .credit-listed .ensures .answer ∙ sym (ap (λ (v : Verdict). v then us) (sym (l .ensures .answer) ∙ fine));
+      answer = c .credit-listed .ensures .answer ∙ sym (ap (λ (v : Verdict). v then us) (sym (l .ensures .answer) ∙ c .before .before .before .before .before .before .enum-told2 .given .1));
       credited = c .credit-listed .ensures .credited;
     }
 

@@ -1,36 +1,77 @@
 -- `theoretical::list_standard` meets its contract: the test decides, and a standard that passes is stored.
 -- Assumes nothing.
 use borrow.Author.Needs.{needs}
-use mathlib.Core.Path.{sym, _∙_}
-use Prim.Native.Nat.{_<_}
+use mathlib.Core.Path.{_≡_, sym, ap, _∙_}
+use mathlib.Core.Bool.{true}
 use native.Mathlib.Omega.{arith}
+use Rattle.records.specs.Log.{upTo, standardAt}
+use Rattle.records.proofs.UpTo.{up-to-more}
+use Rattle.rules.specs.Sequence.{justBefore, isAfter, standardKey}
+use Rattle.rules.specs.Keys.{standardNumber, StandardFits}
+use Rattle.rules.specs.RecordGrounds.{standardGround}
 use Rattle.rules.proofs.FirstGround.{refused-not}
-use Rattle.theoretical.proofs.Listings.{recipe-low}
+use Rattle.rules.proofs.Risen.{standard-after}
+use Rattle.rules.proofs.Keys.{standards-below, sequenced-more}
+use Rattle.theoretical.proofs.Listings.{fits-fields}
 use Rattle.theoretical.proofs.list_standard.Statement.{statement}
 use Rattle.theoretical.proofs.list_standard.Tie as tie
 
-low : (c : tie.After-standard-within) → c .standard-within .result .recipe < 1024
-low c = let a = c .before .before .args in rw (c .standard-within .ensures) (recipe-low (a .log .now) (a .h) (a .i))
+fits : (c : tie.After-standard-within) → StandardFits (c .standard-within .result)
+fits c = let a = c .before .before .args in rw (c .standard-within .ensures) (fits-fields (a .log .now) (a .h) (a .i))
 
 test-standard-requires : tie.Need-test-standard-requires
 test-standard-requires c κs =
-    let r = c .before .before .before in
-    let s = r .before .before in
-    (s .pre .0 .chained, ((r .standard-within .ensures, s .pre .0 .lasts (r .standard-within .result .recipe) (low r)), s .pre .1 .0))
+    let s = c .before .before .before in
+    ((c .before .standard-within .ensures, s .pre .0), (omega (arith, s .pre .1 .1 .1 .0), s .pre .1 .1 .1 .1))
+
+-- the answer of the test is the definition's
+tested : (c : tie.After-test-standard)
+    → let a = c .before .before .before .before .args in
+    let at = standardAt (a .log .now) (a .h) in
+    c .test-standard .result ≡ standardGround (a .h .period) (upTo at (a .i)) (a .i) (at (a .i))
+tested c =
+    let a = c .before .before .before .before .args in
+    let at = standardAt (a .log .now) (a .h) in
+    c .test-standard .ensures ∙ ap (standardGround (a .h .period) (upTo at (a .i)) (a .i)) (c .before .before .standard-within .ensures)
+
+returns : tie.Need-returns
+returns c =
+    record {
+      answer = tested (c .before .before);
+      sequenced = λ e. absurd (refused-not (sym (c .enum-told .given .1) ∙ e));
+      listing = λ e. absurd (refused-not (sym (c .enum-told .given .1) ∙ e));
+    }
+
+store-standard-requires : tie.Need-store-standard-requires
+store-standard-requires c κs = let s = c .before .before .before .before .before .before .before .before .before .before in (s .pre .1 .0, (c .before .before .before .before .before .before .before .before .standard-within .ensures, s .pre .1 .1 .0))
 
 returns-2 : tie.Need-returns-2
-returns-2 c = record { tested = c .before .before .test-standard .ensures; listing = λ e. absurd (refused-not (sym (c .enum-told2 .given .1) ∙ e)) }
+returns-2 c =
+    let t = c .before .before .before .before .before .before .before in
+    let r = t .before .before in
+    let s = r .before .before in
+    let a = s .args in
+    let at = standardAt (a .log .now) (a .h) in
+    let passed = c .before .before .before .before .before .enum-told2 .given .1 in
+    let after : isAfter standardKey (justBefore (upTo at (a .i))) (r .standard-within .result) ≡ true
+    = ap (isAfter standardKey (justBefore (upTo at (a .i)))) (r .standard-within .ensures) ∙ standard-after _ _ _ _ (sym (tested t) ∙ passed) in
+    record {
+      answer = sym passed ∙ tested t;
+      sequenced = λ e. rw (up-to-more at (a .i), ← r .standard-within .ensures, c .before .before .before .before .standard-number .ensures)
+          (sequenced-more standardKey standardNumber StandardFits standards-below (upTo at (a .i)) _ _ (s .pre .0) (fits r) after);
+      listing = λ e. c .store-standard .ensures;
+    }
 
 pub list-standard-spec : {M : Type 1} → statement M
 list-standard-spec =
     tie.close
     (tie.spec
     (λ c κs. search needs)
-    (λ c. omega (arith, low c))
-    low
     test-standard-requires
     (λ c. search needs)
-    (λ c κs. search needs)
+    returns
     (λ c. search needs)
-    (λ c. search needs)
+    (λ c κs. fits (c .before .before .before .before))
+    (λ c. omega (arith, fits (c .before .before .before .before .before), c .standard-number .ensures))
+    store-standard-requires
     returns-2)

@@ -10,10 +10,10 @@ use Rattle.theoretical.proofs.list_standards.Statement.{statement}
 use Rattle.theoretical.proofs.list_standards.Tie as tie
 
 abbrev Inv-loop : tie.InvT-loop
-Inv-loop log h entries₀ links₀ last₀ rising₀ n i₀ entries links last rising i = (n ≡ h .standards) × ListedTo (h .period) (standardAt log h) n i rising entries links last
+Inv-loop log h entries₀ links₀ last₀ least₀ n i₀ entries links last least i = (n ≡ h .standards) × ListedTo (h .period) (standardAt log h) n i least entries links last
 
 abbrev μ-loop : tie.MeasureT-loop
-μ-loop log h entries₀ links₀ last₀ rising₀ n i₀ entries links last rising i = n - i
+μ-loop log h entries₀ links₀ last₀ least₀ n i₀ entries links last least i = n - i
 
 loop-holds : tie.Need-loop-holds Inv-loop μ-loop
 loop-holds c =
@@ -23,46 +23,47 @@ loop-holds c =
 
 list-standard-requires : tie.Need-list-standard-requires Inv-loop μ-loop
 list-standard-requires c κs =
-    let t = c .before .before .before in
+    let t = c .before .before .before .before in
     let l = t .before .loop in
     let s = t .before .before .before in
-    (l .inv .1 .listing, (l .inv .1 .rising, (omega (arith, t .loop-test .taken, s .pre .0 .0), (omega (arith, t .loop-test .taken, s .pre .0 .1 .0), s .pre .0 .1 .1))))
-
-enum-told : tie.Need-enum-told Inv-loop μ-loop
-enum-told c = search needs
+    (l .inv .1 .sequenced, (l .inv .1 .listing, (omega (arith, t .loop-test .taken, s .pre .0 .0), (omega (arith, t .loop-test .taken, s .pre .0 .1 .0), s .pre .0 .1 .1))))
 
 returns : tie.Need-returns Inv-loop μ-loop
 returns c =
-    let a = c .before .before .before .before .before .before .before .before .before .args in
-    let l = c .before .before .before .before .before .before .before .loop in
+    let a = c .before .before .before .before .before .before .before .before .before .before .args in
+    let l = c .before .before .before .before .before .before .before .before .loop in
     let r = c .before .before .list-standard in
-    listed-stop (a .h .period) (standardAt (a .log .now) (a .h)) (a .h .standards) (l .i) (l .rising) (l .entries) (l .links) (l .last) (c .before .before .before .before .before .before .loop-test .taken) (l .inv .1)
-    (r .result) (r .last .1 .1 .1 .0) (r .last .1 .1 .1 .1 .0) (r .last .1 .1 .1 .1 .1 .0) (r .ensures) _ (c .enum-told .given .1)
-
-enum-told-2 : tie.Need-enum-told-2 Inv-loop μ-loop
-enum-told-2 c = search needs
-
-add-i : tie.Need-add-i Inv-loop μ-loop
-add-i c = omega (arith, c .before .before .before .before .before .before .loop-test .taken, c .before .before .before .before .before .before .before .before .before .pre .0)
-
-loop-less : tie.Need-loop-less Inv-loop μ-loop
-loop-less c = omega (arith, c .before .before .before .before .before .before .loop-test .taken)
+    listed-stop (a .h .period) (standardAt (a .log .now) (a .h)) (a .h .standards) (l .i) (l .least) (l .entries) (l .links) (l .last) (c .before .before .before .before .before .before .before .loop-test .taken) (l .inv .1)
+    (r .result) (r .last .1 .1 .1 .0) (r .last .1 .1 .1 .1 .0) (r .last .1 .1 .1 .1 .1 .0) (r .last .1 .1 .1 .1 .1 .1 .0) (r .ensures) _ (c .enum-told .given .1)
 
 loop-again : tie.Need-loop-again Inv-loop μ-loop
 loop-again c =
-    let a = c .before .before .before .before .before .before .before .before .before .args in
-    let l = c .before .before .before .before .before .before .before .loop in
+    let a = c .before .before .before .before .before .before .before .before .before .before .args in
+    let l = c .before .before .before .before .before .before .before .before .loop in
     let r = c .before .before .list-standard in (
       refl,
-      listed-step (a .h .period) (standardAt (a .log .now) (a .h)) (a .h .standards) (l .i) (l .rising) (l .entries) (l .links) (l .last) (c .before .before .before .before .before .before .loop-test .taken) (l .inv .1)
-          (r .result) (r .last .1 .1 .1 .0) (r .last .1 .1 .1 .1 .0) (r .last .1 .1 .1 .1 .1 .0) (r .ensures) (c .enum-told2 .given .1),
+      listed-step (a .h .period) (standardAt (a .log .now) (a .h)) (a .h .standards) (l .i) (l .least) (l .entries) (l .links) (l .last) (c .before .before .before .before .before .before .before .loop-test .taken) (l .inv .1)
+          (r .result) (r .last .1 .1 .1 .0) (r .last .1 .1 .1 .1 .0) (r .last .1 .1 .1 .1 .1 .0) (r .last .1 .1 .1 .1 .1 .1 .0) (r .ensures) (c .enum-told2 .given .1),
     )
 
 returns-2 : tie.Need-returns-2 Inv-loop μ-loop
 returns-2 c =
     let l = c .before .loop in
     let a = c .before .before .before .args in
-    listed-all (a .h .period) (standardAt (a .log .now) (a .h)) (a .h .standards) (l .i) (l .rising) (l .entries) (l .links) (l .last) (c .loop-test .left) (l .inv .1)
+    listed-all (a .h .period) (standardAt (a .log .now) (a .h)) (a .h .standards) (l .i) (l .least) (l .entries) (l .links) (l .last) (c .loop-test .left) (l .inv .1)
 
 pub list-standards-spec : {M : Type 1} → statement M
-list-standards-spec = tie.close (tie.spec Inv-loop μ-loop loop-holds list-standard-requires enum-told returns enum-told-2 add-i loop-less loop-again returns-2)
+list-standards-spec =
+    tie.close
+    (tie.spec
+    Inv-loop
+    μ-loop
+    loop-holds
+    list-standard-requires
+    (λ c. search needs)
+    returns
+    (λ c. search needs)
+    (λ c. omega (arith, c .before .before .before .before .before .before .before .loop-test .taken, c .before .before .before .before .before .before .before .before .before .before .pre .0))
+    (λ c. omega (arith, c .before .before .before .before .before .before .before .loop-test .taken))
+    loop-again
+    returns-2)

@@ -6,8 +6,8 @@ use Rattle.theoretical.proofs.Listings.{looked-up, looked-none}
 use Rattle.theoretical.proofs.look_up.Statement.{statement}
 use Rattle.theoretical.proofs.look_up.Tie as tie
 
-entry-in-force-requires : tie.Need-entry-in-force-requires
-entry-in-force-requires c κs =
+newest-requires : tie.Need-newest-requires
+newest-requires c κs =
     let s = c .before .before in
     (s .pre .0 .chained, ((s .pre .0 .lasts (s .args .recipe) (s .pre .1 .1 .0), s .pre .1 .1 .1), s .pre .1 .0))
 
@@ -16,14 +16,14 @@ returns c =
     let f = c .before in
     let s = f .before .before .before in
     let a = s .args in
-    looked-none (standardAt (a .log .now) (a .h)) (a .n) (a .recipe) (a .time) (s .pre .1 .0 .1) (f .entry-in-force .result) (f .entry-in-force .ensures) (c .if1 .taken)
+    looked-none (standardAt (a .log .now) (a .h)) (a .n) (a .recipe) (a .time) (s .pre .1 .0) (f .newest .result) (f .newest .ensures) (c .if1 .taken)
 
 returns-2 : tie.Need-returns-2
 returns-2 c =
     let f = c .before in
     let s = f .before .before .before in
     let a = s .args in
-    looked-up (standardAt (a .log .now) (a .h)) (a .n) (a .recipe) (a .time) (s .pre .1 .0 .1) (f .entry-in-force .result) (f .entry-in-force .ensures) (c .if1 .left)
+    looked-up (standardAt (a .log .now) (a .h)) (a .n) (a .recipe) (a .time) (s .pre .1 .0) (f .newest .result) (f .newest .ensures) (c .if1 .left)
 
 pub look-up-spec : {M : Type 1} → statement M
-look-up-spec = tie.close (tie.spec (λ c. search needs) (λ c. search needs) entry-in-force-requires returns returns-2)
+look-up-spec = tie.close (tie.spec (λ c. search needs) (λ c. search needs) newest-requires returns returns-2)

@@ -1,18 +1,18 @@
 -- `theoretical::newest` meets its contract: a standard on the chain that has not begun is passed over, and the first that has is in force, since the starts rise.
 -- Assumes nothing.
 use borrow.Author.Needs.{needs}
-use mathlib.Core.Path.{_≡_, refl, sym, ap, _∙_}
+use mathlib.Core.Path.{_≡_, sym, ap, _∙_}
 use Prim.Native.Nat.{pred, _+_, _*_, _^_, _<_}
 use native.Mathlib.Omega.{arith}
 use Rattle.records.specs.Log.{standardAt}
 use Rattle.theoretical.specs.Chains.{entryIn}
 use Rattle.theoretical.proofs.Listings.{time-low}
-use Rattle.theoretical.proofs.Walks.{Searching, linked-entry, searching-start, searching-passed, searching-newest, searching-end, begun, not-yet}
+use Rattle.theoretical.proofs.Walks.{Searching, searching-start, searching-passed, searching-newest, searching-end, begun, not-yet}
 use Rattle.theoretical.proofs.newest.Statement.{statement}
 use Rattle.theoretical.proofs.newest.Tie as tie
 
 abbrev Inv-loop : tie.InvT-loop
-Inv-loop log h n entries links from recipe time limit link₀ link = (limit ≡ (time + 1) * 2 ^ 27) × Searching (standardAt log h) n recipe time 0 link
+Inv-loop log h n entries links from recipe time limit link₀ link = (limit ≡ (time + 1) * 2 ^ 27) × Searching (standardAt log h) n recipe time link
 
 abbrev μ-loop : tie.MeasureT-loop
 μ-loop log h n entries links from recipe time limit link₀ link = link
@@ -34,8 +34,7 @@ returns c =
     let at = standardAt (a .log .now) (a .h) in
     let some : 0 < l .loop .link = omega (arith, c .before .before .loop-test .taken) in
     let early = begun (at (pred (l .loop .link))) (a .time) (rw (← l .loop .inv .0, ← c .before .entry-at .ensures) (c .if1 .taken)) in
-    c .before .entry-at .ensures ∙ linked-entry at (l .loop .link) some
-    ∙ sym (ap entryIn (searching-newest at (a .n) (a .recipe) (a .time) (l .loop .link) some (s .pre .1 .1) (l .loop .inv .1) early .answer))
+    c .before .entry-at .ensures ∙ sym (ap entryIn (searching-newest at (a .n) (a .recipe) (a .time) (l .loop .link) some (s .pre .1 .1) (l .loop .inv .1) early))
 
 link-before-requires : tie.Need-link-before-requires Inv-loop μ-loop
 link-before-requires c κs =
@@ -46,13 +45,13 @@ abbrev head : tie.After-link-before Inv-loop μ-loop → tie.At-loop Inv-loop μ
 head c = c .before .before .before .before
 
 turn : (c : tie.After-link-before Inv-loop μ-loop)
-    → let a = head c .before .before .before .args in (Searching (standardAt (a .log .now) (a .h)) (a .n) (a .recipe) (a .time) 0 (c .link-before .result)) × (c .link-before .result < head c .loop .link)
+    → let a = head c .before .before .before .args in (Searching (standardAt (a .log .now) (a .h)) (a .n) (a .recipe) (a .time) (c .link-before .result)) × (c .link-before .result < head c .loop .link)
 turn c =
     let l = head c in
     let a = l .before .before .before .args in
     let at = standardAt (a .log .now) (a .h) in
-    searching-passed at (a .n) (a .recipe) (a .time) 0 (l .loop .link) (c .link-before .result) 0 (omega (arith, c .before .before .before .loop-test .taken)) (l .loop .inv .1)
-    (not-yet (at (pred (l .loop .link))) (a .time) (time-low (a .log .now) (a .h) (pred (l .loop .link))) (rw (← l .loop .inv .0, ← c .before .before .entry-at .ensures) (c .before .if1 .left))) refl (c .link-before .ensures)
+    searching-passed at (a .n) (a .recipe) (a .time) (l .loop .link) (c .link-before .result) (omega (arith, c .before .before .before .loop-test .taken)) (l .loop .inv .1)
+    (not-yet (at (pred (l .loop .link))) (a .time) (time-low (a .log .now) (a .h) (pred (l .loop .link))) (rw (← l .loop .inv .0, ← c .before .before .entry-at .ensures) (c .before .if1 .left))) (c .link-before .ensures)
 
 loop-again : tie.Need-loop-again Inv-loop μ-loop
 loop-again c = (head c .loop .inv .0, turn c .0)
@@ -61,7 +60,7 @@ returns-2 : tie.Need-returns-2 Inv-loop μ-loop
 returns-2 c =
     let l = c .before in
     let a = l .before .before .before .args in
-    sym (ap entryIn (searching-end (standardAt (a .log .now) (a .h)) (a .n) (a .recipe) (a .time) 0 (l .loop .link) (omega (arith, c .loop-test .left)) (l .loop .inv .1) .answer))
+    sym (ap entryIn (searching-end (standardAt (a .log .now) (a .h)) (a .n) (a .recipe) (a .time) (l .loop .link) (omega (arith, c .loop-test .left)) (l .loop .inv .1)))
 
 pub newest-spec : {M : Type 1} → statement M
 newest-spec =
