@@ -31,7 +31,7 @@ line-put k p =
     (q, omega (arith, q .next, card-length k))
 
 -- a number that the card does not have has no fields, like 0
-card-size : length card ≡ 57
+card-size : length card ≡ 60
 unfolding card
 card-size = refl
 
@@ -39,7 +39,7 @@ no-number : getD card 0 [] ≡ []
 unfolding card
 no-number = refl
 
-pub past-card : (n j : ℕ) → 18 < n → getD card 0 [] ≡ field n j
+pub past-card : (n j : ℕ) → 19 < n → getD card 0 [] ≡ field n j
 unfolding field
 past-card n j h = no-number ∙ sym (List·getD-eq-default card [] {n = 3 * n + j} (omega (arith, card-size)))
 
@@ -49,10 +49,10 @@ pub row-none : (n : ℕ) (before : List ℕ) → n < 1 → AtFront (explained n)
 unfolding explained
 row-none n before h = rw (lt-leb 1 n h) (front-nothing 512 before)
 
-pub row-past : (n : ℕ) (before : List ℕ) → 18 < n → AtFront (explained n) 512 before 0 before
+pub row-past : (n : ℕ) (before : List ℕ) → 19 < n → AtFront (explained n) 512 before 0 before
 unfolding explained
-row-past n before h = rw (le-leb 1 n (omega arith), lt-leb n 18 h) (front-nothing 512 before)
+row-past n before h = rw (le-leb 1 n (omega arith), lt-leb n 19 h) (front-nothing 512 before)
 
-pub row-of : (n : ℕ) {before after : List ℕ} {r : ℕ} → 1 ≤ n → n ≤ 18 → AtFront (rowText n) 512 before r after → AtFront (explained n) 512 before r after
+pub row-of : (n : ℕ) {before after : List ℕ} {r : ℕ} → 1 ≤ n → n ≤ 19 → AtFront (rowText n) 512 before r after → AtFront (explained n) 512 before r after
 unfolding explained
-row-of n h l p = rw (le-leb 1 n h, le-leb n 18 l) p
+row-of n h l p = rw (le-leb 1 n h, le-leb n 19 l) p

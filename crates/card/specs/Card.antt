@@ -27,7 +27,7 @@ card =
     ++ row "stray module" "module at or above the module count" "a module added after the header was set"
     ++ row "stray code" "sub-state code above 23" "codes of the controller's own that are not mapped"
     ++ row "outside" "time or start at or past the period" "a clock set during the period, or records of the next one"
-    ++ row "sequence" "state record earlier than the one before, or not later than its own module's last" "a clock set back; a change logged twice"
+    ++ row "sequence" "time, then module, not above the record before, or not later than its own module's last" "a clock set back; a change logged twice; modules of one time out of sequence"
     ++ row "no opening" "a module whose first record is not at time 0, or that has none" "the module's state at the start of the period"
     ++ row "no time" "theoretical time 0" "a recipe that was entered without its time"
     ++ row "twice" "recipe and start both equal to an earlier standard's" "a revision entered twice"
@@ -36,6 +36,7 @@ card =
     ++ row "too fast" "a module's actual theoretical time above its production time" "a standard that is too long, or productive time logged as something else"
     ++ row "too great" "a tool sum above 9,007,199,254,740,991 ms" "no log can reach it"
     ++ row "short buffer" "report longer than the buffer" "lend 2,494 bytes, which hold every report"
+    ++ row "unsorted" "out of rising sequence: standards by recipe and start, units by time, module and recipe" "sort the list by these fields, ascending; merge unit records that agree in all three"
 
 -- field j of number n: 0 the word, 1 the meaning, 2 what to look for; empty where the card does not have the number
 unfoldable pub field : ℕ → ℕ → List ℕ
@@ -54,7 +55,7 @@ lookFor n = field n 2
 -- ---- the row of a number
 
 abbrev pub onCard : ℕ → Bool
-onCard n = leb 1 n && leb n 18
+onCard n = leb 1 n && leb n 19
 
 -- three lines: number and word, meaning, what to look for
 unfoldable pub rowText : ℕ → List ℕ

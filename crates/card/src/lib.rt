@@ -40,7 +40,7 @@ fn put_line(buf: &mut [u8], at: usize, text: &[u8], k: usize) -> usize
     report::put_text(buf, at, &text[from..end])
 }
 
-// Line k of the card, of which every number from 0 to 18 has three: its word, its meaning and what to look for. The caller owes the room.
+// Line k of the card, of which every number from 0 to 19 has three: its word, its meaning and what to look for. The caller owes the room.
 fn put_card_line(buf: &mut [u8], at: usize, k: usize) -> usize
     requires { ⌜ at + 96 ≤ length (now buf) ⌝ }
     ensures { λ r. ⌜ Put (getD card k []) (now (buf .entry)) at r (now (buf .exit)) ⌝ }
@@ -60,7 +60,7 @@ fn put_card_line(buf: &mut [u8], at: usize, k: usize) -> usize
         stray module\nmodule at or above the module count\na module added after the header was set\n\
         stray code\nsub-state code above 23\ncodes of the controller's own that are not mapped\n\
         outside\ntime or start at or past the period\na clock set during the period, or records of the next one\n\
-        sequence\nstate record earlier than the one before, or not later than its own module's last\na clock set back; a change logged twice\n\
+        sequence\ntime, then module, not above the record before, or not later than its own module's last\na clock set back; a change logged twice; modules of one time out of sequence\n\
         no opening\na module whose first record is not at time 0, or that has none\nthe module's state at the start of the period\n\
         no time\ntheoretical time 0\na recipe that was entered without its time\n\
         twice\nrecipe and start both equal to an earlier standard's\na revision entered twice\n\
@@ -69,6 +69,7 @@ fn put_card_line(buf: &mut [u8], at: usize, k: usize) -> usize
         too fast\na module's actual theoretical time above its production time\na standard that is too long, or productive time logged as something else\n\
         too great\na tool sum above 9,007,199,254,740,991 ms\nno log can reach it\n\
         short buffer\nreport longer than the buffer\nlend 2,494 bytes, which hold every report\n\
+        unsorted\nout of rising sequence: standards by recipe and start, units by time, module and recipe\nsort the list by these fields, ascending; merge unit records that agree in all three\n\
         ",
         k,
     )
@@ -81,7 +82,7 @@ fn put_field(buf: &mut [u8], at: usize, n: usize, j: usize) -> usize
     ensures { λ r. ⌜ Put (field n j) (now (buf .entry)) at r (now (buf .exit)) ⌝ }
     ensures { λ r. ⌜ r ≤ at + 96 ⌝ }
 {
-    if 18 < n {
+    if 19 < n {
         put_card_line(buf, at, 0)
     } else {
         put_card_line(buf, at, 3 * n + j)
@@ -118,7 +119,7 @@ pub fn explain(n: usize, buf: &mut [u8; 512]) -> usize
     if n < 1 {
         return 0;
     }
-    if 18 < n {
+    if 19 < n {
         return 0;
     }
     put_row(buf, n)

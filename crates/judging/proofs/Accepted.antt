@@ -17,7 +17,7 @@ use Rattle.rules.specs.declared.Refusal.{Refusal}
 use Rattle.rules.specs.declared.Verdict.the-variants.{Accepted, Refused}
 use Rattle.rules.specs.Grounds.{ground, _then_, firstOf, inTurn}
 use Rattle.rules.specs.Theoretical.{inForce, timeOf, credit, theoreticalTime}
-use Rattle.rules.specs.RecordGrounds.{isNone, unitGround, unitGrounds}
+use Rattle.rules.specs.RecordGrounds.{unitGround, unitGrounds}
 use Rattle.rules.specs.Quantities.{timeIn, uptime, actualTime, effectiveTime, sumBelow, moduleTimes, allTimes, ofTool, toolTimes}
 use Rattle.rules.specs.Verdict.{fastGround, isOver, anyOver, anyTimeOver, sumGrounds}
 use Rattle.rules.proofs.FirstGround.{then-left, then-right, refused-not, not-met, first-all}
@@ -30,11 +30,10 @@ use Rattle.judging.proofs.SumLaws.{sum-le, sum-each}
 effective-le : (period modules : ℕ) (ss : List Standard) (us : List UnitRecord) (i : ℕ) (u : UnitRecord) → unitGround period modules ss us i u ≡ Accepted → u .effective ≤ u .actual
 unfolding unitGround
 effective-le period modules ss us i u e =
-    let none = ground 15 3 i (isNone (inForce ss (u .recipe) (u .time))) in
     let a = then-right (ground 6 3 i (not (eqb (u .spare) 0))) _ e in
     let b = then-right (ground 7 3 i (leb modules (u .«module»))) _ a in
     let c = then-right (ground 9 3 i (leb period (u .time))) _ b in
-    ltb-false (u .actual) (u .effective) (not-met 14 3 i (ltb (u .actual) (u .effective)) (then-left (ground 14 3 i (ltb (u .actual) (u .effective))) none c))
+    ltb-false (u .actual) (u .effective) (not-met 14 3 i (ltb (u .actual) (u .effective)) (then-left (ground 14 3 i (ltb (u .actual) (u .effective))) _ c))
 
 credit-le : (ss : List Standard) (m : ℕ) (u : UnitRecord) → u .effective ≤ u .actual → credit (λ u. u .effective) ss m u ≤ credit (λ u. u .actual) ss m u
 unfolding credit

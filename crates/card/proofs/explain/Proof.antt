@@ -1,4 +1,4 @@
--- `card::explain` meets its contract: a number from 1 to 18 is on the card. Assumes nothing.
+-- `card::explain` meets its contract: a number from 1 to 19 is on the card. Assumes nothing.
 use borrow.Author.Needs.{needs}
 use Rattle.card.proofs.OnCard.{row-none, row-past, row-of}
 use Rattle.card.proofs.explain.Statement.{statement}
