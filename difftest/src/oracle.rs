@@ -1,4 +1,4 @@
-//! Document 01 in plain Rust, written to be read beside it and not to be fast.
+//! Document 01 with the rising sequence of R-1 in plain Rust, written to be read beside them and not to be fast.
 
 use crate::records::*;
 
@@ -280,7 +280,7 @@ fn tool_sums(modules: &[Sums]) -> Sums {
     tool
 }
 
-// ---------------------------------------------------------------- grounds 6 to 17
+// ---------------------------------------------------------------- grounds 6 to 17 and 19
 
 fn test_state_records(log: &Log) -> Result<(), Refusal> {
     for (place, record) in log.states.iter().enumerate() {
@@ -298,13 +298,16 @@ fn test_state_records(log: &Log) -> Result<(), Refusal> {
         if record.time >= log.header.period {
             return refused(9);
         }
-        let before_the_one_before = earlier.last().is_some_and(|last| record.time < last.time);
+        // By time, and those of equal time by module.
+        let not_above_the_one_before = earlier
+            .last()
+            .is_some_and(|last| (record.time, record.module) <= (last.time, last.module));
         let own_last = earlier
             .iter()
             .rev()
             .find(|other| other.module == record.module);
         let not_after_own_last = own_last.is_some_and(|last| record.time <= last.time);
-        if before_the_one_before || not_after_own_last {
+        if not_above_the_one_before || not_after_own_last {
             return refused(10);
         }
     }
@@ -336,8 +339,16 @@ fn test_standards(log: &Log) -> Result<(), Refusal> {
         }
         let alike =
             |other: &Standard| other.recipe == standard.recipe && other.start == standard.start;
-        if log.standards[..place].iter().any(alike) {
+        let earlier = &log.standards[..place];
+        if earlier.iter().any(alike) {
             return refused(13);
+        }
+        // By recipe, then start.
+        let not_above_the_one_before = earlier
+            .last()
+            .is_some_and(|last| (standard.recipe, standard.start) <= (last.recipe, last.start));
+        if not_above_the_one_before {
+            return refused(19);
         }
     }
     Ok(())
@@ -360,6 +371,13 @@ fn test_unit_records(log: &Log) -> Result<(), Refusal> {
         }
         if in_force(&log.standards, unit.recipe, unit.time).is_none() {
             return refused(15);
+        }
+        // By time, then module, then recipe.
+        let not_above_the_one_before = log.units[..place].last().is_some_and(|last| {
+            (unit.time, unit.module, unit.recipe) <= (last.time, last.module, last.recipe)
+        });
+        if not_above_the_one_before {
+            return refused(19);
         }
     }
     Ok(())
@@ -391,7 +409,7 @@ pub struct Account {
     pub tool: Sums,
 }
 
-/// Grounds 1 to 17; the sums of a log that meets none of them.
+/// Every ground but 18; the sums of a log that meets none of them.
 pub fn account(bytes: &[u8]) -> Result<Account, Refusal> {
     let log = read(bytes)?;
     test_state_records(&log)?;

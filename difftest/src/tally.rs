@@ -1,6 +1,6 @@
 //! Counts what a run met, so that a generator that misses a refusal shows.
 
-use crate::records::Refusal;
+use crate::records::{Refusal, STANDARDS, UNITS};
 use std::collections::BTreeMap;
 use std::fmt;
 
@@ -26,10 +26,16 @@ impl Tally {
         }
     }
 
-    /// The numbers 1 to 16 that no log met. 17 cannot be met: after 16 no sum passes its bound.
+    /// The numbers 1 to 16 and 19 that no log met, 19 where it was not met in both of its lists.
+    /// 17 cannot be met: after 16 no sum passes its bound.
     pub fn never_met(&self) -> Vec<u64> {
         let met = |number: &u64| self.refused.keys().any(|(other, _)| other == number);
-        (1..=16).filter(|number| !met(number)).collect()
+        let unsorted = |list| self.refused.contains_key(&(19, list));
+        let missed_19 = (!unsorted(STANDARDS) || !unsorted(UNITS)).then_some(19);
+        (1..=16)
+            .filter(|number| !met(number))
+            .chain(missed_19)
+            .collect()
     }
 
     /// The same, and 18 where no buffer was too short.
