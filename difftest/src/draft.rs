@@ -40,7 +40,33 @@ impl BitWriter {
     }
 }
 
+/// What each list rises by.
+impl StateRecord {
+    pub fn key(&self) -> (u64, u64) {
+        (self.time, self.module)
+    }
+}
+
+impl Standard {
+    pub fn key(&self) -> (u64, u64) {
+        (self.recipe, self.start)
+    }
+}
+
+impl UnitRecord {
+    pub fn key(&self) -> (u64, u64, u64) {
+        (self.time, self.module, self.recipe)
+    }
+}
+
 impl Draft {
+    /// Brings the three lists into rising sequence. Records with equal keys stay side by side.
+    pub fn sort(&mut self) {
+        self.states.sort_by_key(StateRecord::key);
+        self.standards.sort_by_key(Standard::key);
+        self.units.sort_by_key(UnitRecord::key);
+    }
+
     pub fn counts(&self) -> [u64; 3] {
         [
             self.states.len() as u64,

@@ -9,10 +9,18 @@ const LAST_TIME_OF_FIELD: u64 = (1 << 35) - 1;
 const MOST: [u64; 3] = [MOST_STATES, MOST_STANDARDS, MOST_UNITS];
 const LAST_COUNT_OF_FIELD: [u64; 3] = [(1 << 14) - 1, (1 << 11) - 1, (1 << 13) - 1];
 
+/// The refusals that a fault can bring. 10 and 19 have more kinds than the others, and come more often.
+const OF_THE_HEADER: [u64; 5] = [1, 2, 3, 4, 5];
+const OF_THE_RECORDS: [u64; 15] = [6, 7, 8, 9, 10, 10, 11, 12, 13, 14, 15, 16, 19, 19, 19];
+
 /// A copy of the draft with one fault, and its refusal.
 pub fn one(rng: &mut Prng, draft: &Draft) -> (Draft, Refusal) {
     loop {
-        let number = rng.between(1, 16);
+        let number = if rng.once_in(4) {
+            rng.pick(&OF_THE_HEADER)
+        } else {
+            rng.pick(&OF_THE_RECORDS)
+        };
         let mut damaged = draft.clone();
         if let Some(refusal) = put(rng, number, &mut damaged) {
             return (damaged, refusal);
@@ -25,8 +33,11 @@ pub fn several(rng: &mut Prng, draft: &Draft) -> Draft {
     let mut damaged = draft.clone();
     for _ in 0..rng.between(2, 5) {
         // Most of them behind the header, so that faults of records meet each other.
-        let first = if rng.once_in(6) { 1 } else { 6 };
-        let number = rng.between(first, 16);
+        let number = if rng.once_in(18) {
+            rng.pick(&OF_THE_HEADER)
+        } else {
+            rng.pick(&OF_THE_RECORDS)
+        };
         put(rng, number, &mut damaged);
     }
     damaged
@@ -51,6 +62,7 @@ fn put(rng: &mut Prng, number: u64, draft: &mut Draft) -> Option<Refusal> {
         14 => over_good(rng, draft),
         15 => no_standard(rng, draft),
         16 => too_fast(rng, draft),
+        19 => unsorted(rng, draft),
         _ => None,
     }
 }
@@ -65,6 +77,10 @@ fn place<T>(rng: &mut Prng, list: &[T]) -> Option<usize> {
         1 => list.len() - 1,
         _ => rng.index(list.len()),
     })
+}
+
+fn pick_one<T: Copy>(rng: &mut Prng, choices: &[T]) -> Option<T> {
+    (!choices.is_empty()).then(|| rng.pick(choices))
 }
 
 /// `low`, `high`, or any between.
@@ -211,48 +227,164 @@ fn outside(rng: &mut Prng, draft: &mut Draft) -> Option<Refusal> {
     }
 }
 
-fn sequence(rng: &mut Prng, draft: &mut Draft) -> Option<Refusal> {
-    let place = place(rng, &draft.states)?;
-    let states = &mut draft.states;
-    match rng.below(3) {
-        // A second record of the module at the same time, somewhere among those of that time.
-        0 => {
-            if states.len() as u64 >= MOST_STATES {
-                return None;
-            }
-            let first = states[place];
-            let same_time = states[place..]
-                .iter()
-                .take_while(|other| other.time == first.time);
-            let second = place + 1 + rng.index(same_time.count());
-            states.insert(
-                second,
-                StateRecord {
-                    code: rng.below(24),
-                    ..first
-                },
-            );
-            Some(Refusal::new(10, STATES, second))
-        }
-        // A time earlier than that of the record before.
-        1 => {
-            let before = states.get(place.checked_sub(1)?)?.time;
-            if before == 0 {
-                return None;
-            }
-            states[place].time = edge_or_between(rng, 0, before - 1);
-            Some(Refusal::new(10, STATES, place))
-        }
-        // Two neighbours of different times exchanged.
-        _ => {
-            let before = place.checked_sub(1)?;
-            if states[before].time == states[place].time {
-                return None;
-            }
-            states.swap(before, place);
-            Some(Refusal::new(10, STATES, place))
-        }
+/// A place behind the first, where a record can break the sequence: the second, the last, or any. A list that is not full has one more, behind its last.
+fn later_place<T>(rng: &mut Prng, list: &[T], most: u64) -> Option<usize> {
+    let count = list.len() as u64;
+    let last = if count < most { count } else { count - 1 };
+    (count > 0 && last > 0).then(|| edge_or_between(rng, 1, last) as usize)
+}
+
+/// Adds a record at the place, in a full list instead of the one there.
+fn put_at<T>(list: &mut Vec<T>, most: u64, place: usize, record: T) {
+    if (list.len() as u64) < most {
+        list.insert(place, record);
+    } else {
+        list[place] = record;
     }
+}
+
+/// Exchanges a record with the one before; the place of the later.
+fn exchange<T>(list: &mut [T], place: usize) -> Option<usize> {
+    let later = place.min(list.len() - 1);
+    list.swap(later.checked_sub(1)?, later);
+    Some(later)
+}
+
+fn sequence(rng: &mut Prng, draft: &mut Draft) -> Option<Refusal> {
+    let place = later_place(rng, &draft.states, MOST_STATES)?;
+    let refused = |place| Refusal::new(10, STATES, place);
+    let before = draft.states[place - 1];
+    let of_that_time: Vec<u64> = draft.states[..place]
+        .iter()
+        .filter(|other| other.time == before.time)
+        .map(|other| other.module)
+        .collect();
+    let (module, time) = match rng.below(4) {
+        // An earlier time.
+        0 => {
+            let module = rng.below(draft.modules.min(MOST_MODULES));
+            let time = edge_or_between(rng, 0, before.time.checked_sub(1)?);
+            (module, time)
+        }
+        // The same time and a lower module that has no record of that time.
+        1 => {
+            let lower = 0..before.module;
+            let free: Vec<u64> = lower.filter(|it| !of_that_time.contains(it)).collect();
+            (pick_one(rng, &free)?, before.time)
+        }
+        // The same time and a module that has one, the neighbour's or a lower one.
+        2 => (rng.pick(&of_that_time), before.time),
+        _ => return exchange(&mut draft.states, place).map(refused),
+    };
+    let record = StateRecord {
+        module,
+        code: rng.below(24),
+        time,
+        spare: 0,
+    };
+    put_at(&mut draft.states, MOST_STATES, place, record);
+    Some(refused(place))
+}
+
+fn unsorted(rng: &mut Prng, draft: &mut Draft) -> Option<Refusal> {
+    if rng.once_in(3) {
+        let place = unsorted_standard(rng, draft)?;
+        Some(Refusal::new(19, STANDARDS, place))
+    } else {
+        let place = unsorted_unit(rng, draft)?;
+        Some(Refusal::new(19, UNITS, place))
+    }
+}
+
+/// The place of a standard made to stand behind a higher one. No earlier one has its recipe and start.
+fn unsorted_standard(rng: &mut Prng, draft: &mut Draft) -> Option<usize> {
+    let place = later_place(rng, &draft.standards, MOST_STANDARDS)?;
+    let before = draft.standards[place - 1];
+    let (recipe, start) = match rng.below(3) {
+        // A lower recipe.
+        0 => {
+            let recipe = edge_or_between(rng, 0, before.recipe.checked_sub(1)?);
+            (recipe, rng.below(draft.period))
+        }
+        // The same recipe and an earlier start.
+        1 => {
+            let start = edge_or_between(rng, 0, before.start.checked_sub(1)?);
+            (before.recipe, start)
+        }
+        _ => return exchange(&mut draft.standards, place),
+    };
+    let standard = Standard {
+        recipe,
+        start,
+        theoretical: edge_or_between(rng, 1, LONGEST_THEORETICAL),
+    };
+    let alike = |other: &Standard| other.key() == standard.key();
+    if draft.standards[..place].iter().any(alike) {
+        return None;
+    }
+    put_at(&mut draft.standards, MOST_STANDARDS, place, standard);
+    Some(place)
+}
+
+/// The place of a unit record made to stand behind a higher one or one alike. It has a standard in force.
+fn unsorted_unit(rng: &mut Prng, draft: &mut Draft) -> Option<usize> {
+    let place = later_place(rng, &draft.units, MOST_UNITS)?;
+    let before = draft.units[place - 1];
+    let any_module = rng.below(draft.modules.min(MOST_MODULES));
+    let (time, module, recipe) = match rng.below(5) {
+        // An earlier time.
+        0 => {
+            let time = edge_or_between(rng, 0, before.time.checked_sub(1)?);
+            (
+                time,
+                any_module,
+                recipe_up_to(rng, draft, LAST_RECIPE, time)?,
+            )
+        }
+        // The same time and a lower module.
+        1 => {
+            let module = edge_or_between(rng, 0, before.module.checked_sub(1)?);
+            (
+                before.time,
+                module,
+                recipe_up_to(rng, draft, LAST_RECIPE, before.time)?,
+            )
+        }
+        // The same time and module and a lower recipe.
+        2 => {
+            let recipe = recipe_up_to(rng, draft, before.recipe.checked_sub(1)?, before.time)?;
+            (before.time, before.module, recipe)
+        }
+        // All three alike.
+        3 => before.key(),
+        _ => return exchange(&mut draft.units, place),
+    };
+    let actual = if rng.once_in(2) {
+        before.actual
+    } else {
+        edge_or_between(rng, 0, MOST_OF_A_RECORD)
+    };
+    let unit = UnitRecord {
+        module,
+        recipe,
+        time,
+        actual,
+        effective: edge_or_between(rng, 0, actual),
+        spare: 0,
+    };
+    put_at(&mut draft.units, MOST_UNITS, place, unit);
+    Some(place)
+}
+
+/// A recipe not above the highest that has a standard in force at the time.
+fn recipe_up_to(rng: &mut Prng, draft: &Draft, highest: u64, time: u64) -> Option<u64> {
+    let recipes: Vec<u64> = draft
+        .standards
+        .iter()
+        .filter(|standard| standard.recipe <= highest && standard.start <= time)
+        .map(|standard| standard.recipe)
+        .collect();
+    pick_one(rng, &recipes)
 }
 
 fn no_opening(rng: &mut Prng, draft: &mut Draft) -> Option<Refusal> {
@@ -281,40 +413,55 @@ fn no_opening(rng: &mut Prng, draft: &mut Draft) -> Option<Refusal> {
             record.time = edge_or_between(rng, 1, end - 1);
             let place = draft
                 .states
-                .partition_point(|other| other.time <= record.time);
+                .partition_point(|other| other.key() < record.key());
             draft.states.insert(place, record);
         }
     }
     Some(Refusal::new(11, NO_LIST, module as usize))
 }
 
+/// The place of a standard, once in three of one that is out of sequence too.
+fn place_of_standard(rng: &mut Prng, draft: &mut Draft) -> Option<usize> {
+    if rng.once_in(3) {
+        unsorted_standard(rng, draft)
+    } else {
+        place(rng, &draft.standards)
+    }
+}
+
+/// The same of a unit record.
+fn place_of_unit(rng: &mut Prng, draft: &mut Draft) -> Option<usize> {
+    if rng.once_in(3) {
+        unsorted_unit(rng, draft)
+    } else {
+        place(rng, &draft.units)
+    }
+}
+
 fn no_time(rng: &mut Prng, draft: &mut Draft) -> Option<Refusal> {
-    let place = place(rng, &draft.standards)?;
+    let place = place_of_standard(rng, draft)?;
     draft.standards[place].theoretical = 0;
     Some(Refusal::new(12, STANDARDS, place))
 }
 
+/// A standard with recipe and start of its neighbour or of one further up.
 fn twice(rng: &mut Prng, draft: &mut Draft) -> Option<Refusal> {
-    let first = place(rng, &draft.standards)?;
-    let theoretical = edge_or_between(rng, 1, LONGEST_THEORETICAL);
+    let place = later_place(rng, &draft.standards, MOST_STANDARDS)?;
+    let first = if rng.once_in(3) {
+        place - 1
+    } else {
+        rng.index(place)
+    };
     let copy = Standard {
-        theoretical,
+        theoretical: edge_or_between(rng, 1, LONGEST_THEORETICAL),
         ..draft.standards[first]
     };
-    if draft.standards.len() as u64 == MOST_STANDARDS {
-        // A full list: in the place of another.
-        let second = place(rng, &draft.standards)?;
-        draft.standards[second] = copy;
-        return (first != second).then(|| Refusal::new(13, STANDARDS, first.max(second)));
-    }
-    let second = rng.index(draft.standards.len() + 1);
-    draft.standards.insert(second, copy);
-    // Where the copy comes first, the one copied is the later of the two.
-    Some(Refusal::new(13, STANDARDS, second.max(first + 1)))
+    put_at(&mut draft.standards, MOST_STANDARDS, place, copy);
+    Some(Refusal::new(13, STANDARDS, place))
 }
 
 fn over_good(rng: &mut Prng, draft: &mut Draft) -> Option<Refusal> {
-    let place = place(rng, &draft.units)?;
+    let place = place_of_unit(rng, draft)?;
     let unit = &mut draft.units[place];
     if unit.actual == MOST_OF_A_RECORD {
         return None;
@@ -325,12 +472,13 @@ fn over_good(rng: &mut Prng, draft: &mut Draft) -> Option<Refusal> {
 
 fn no_standard(rng: &mut Prng, draft: &mut Draft) -> Option<Refusal> {
     let unused = unused_recipe(rng, draft);
-    let Some(place) = place(rng, &draft.units) else {
+    if draft.units.is_empty() {
         let time = rng.below(draft.period.max(1));
         let actual = edge_or_between(rng, 0, MOST_OF_A_RECORD);
         draft.unit(0, unused, time, actual, actual);
         return Some(Refusal::new(15, UNITS, 0));
-    };
+    }
+    let place = place_of_unit(rng, draft)?;
     let unit = &mut draft.units[place];
     let of_recipe = draft
         .standards
@@ -379,40 +527,53 @@ fn too_fast(rng: &mut Prng, draft: &mut Draft) -> Option<Refusal> {
     let module = edge_or_between(rng, 0, draft.modules.min(MOST_MODULES).checked_sub(1)?);
     let room = room_of(draft, module)?;
     match rng.below(60) {
-        0 => far_too_fast(rng, draft, module),
-        1..=20 => {
-            // 1 ms too much.
-            fill(rng, draft, module, room);
-            draft.units.last_mut()?.actual += 1;
-        }
+        0 => far_too_fast(rng, draft, module)?,
+        // 1 ms too much.
+        1..=20 => fill(rng, draft, module, room + 1),
         _ => {
             // Enough units of a standard that is long enough.
             let shortest = room / MOST_OF_A_RECORD + 1;
             let theoretical = edge_or_between(rng, shortest, LONGEST_THEORETICAL);
             let actual = edge_or_between(rng, room / theoretical + 1, MOST_OF_A_RECORD);
-            let (recipe, time) = new_standard(rng, draft, theoretical);
-            draft.unit(module, recipe, time, actual, 0);
+            let start = rng.below(draft.period);
+            let recipe = new_standard(rng, draft, start, theoretical);
+            let time = rng.between(start, draft.period - 1);
+            add_units(draft, module, recipe, time, actual);
         }
     }
-    rng.shuffle(&mut draft.units);
-    rng.shuffle(&mut draft.standards);
     Some(Refusal::new(16, NO_LIST, module as usize))
 }
 
-/// A standard of an unused recipe, and a time at which it is in force.
-fn new_standard(rng: &mut Prng, draft: &mut Draft, theoretical: u64) -> (u64, u64) {
+/// Adds a standard of an unused recipe.
+fn new_standard(rng: &mut Prng, draft: &mut Draft, start: u64, theoretical: u64) -> u64 {
     let recipe = unused_recipe(rng, draft);
-    let start = rng.below(draft.period);
-    draft.standard(recipe, start, theoretical);
-    (recipe, rng.between(start, draft.period - 1))
+    add_standard(draft, recipe, start, theoretical);
+    recipe
 }
 
-/// So many units that the module's sum, and with it the tool's, passes 2^53.
-fn far_too_fast(rng: &mut Prng, draft: &mut Draft, module: u64) {
-    let (recipe, time) = new_standard(rng, draft, LONGEST_THEORETICAL);
+/// Adds a unit record, none of its units effective.
+fn add_units(draft: &mut Draft, module: u64, recipe: u64, time: u64, actual: u64) {
+    let unit = UnitRecord {
+        module,
+        recipe,
+        time,
+        actual,
+        effective: 0,
+        spare: 0,
+    };
+    add_unit(draft, unit);
+}
+
+/// So many units, a record each ms, that the module's sum, and with it the tool's, passes 2^53.
+fn far_too_fast(rng: &mut Prng, draft: &mut Draft, module: u64) -> Option<()> {
+    let start = rng.below(draft.period.checked_sub(MOST_UNITS)?);
+    let recipe = new_standard(rng, draft, start, LONGEST_THEORETICAL);
+    let mut time = start;
     while (draft.units.len() as u64) < MOST_UNITS {
-        draft.unit(module, recipe, time, MOST_OF_A_RECORD, MOST_OF_A_RECORD);
+        add_units(draft, module, recipe, time, MOST_OF_A_RECORD);
+        time += 1;
     }
+    Some(())
 }
 
 /// In a full list, the units of one record raised as far as they go.

@@ -2,6 +2,7 @@
 
 mod faults;
 mod raw;
+mod sequences;
 mod valid;
 
 use crate::prng::Prng;
@@ -37,8 +38,15 @@ pub fn make(seed: u64, index: u64) -> Made {
                 expected: Expected::Refused(refusal),
             }
         }
-        80..=87 => {
+        80..=86 => {
             let draft = faults::several(&mut rng, &draft);
+            Made {
+                bytes: draft.bytes(),
+                expected: Expected::Unknown,
+            }
+        }
+        87..=90 => {
+            let draft = sequences::any(&mut rng, &draft);
             Made {
                 bytes: draft.bytes(),
                 expected: Expected::Unknown,

@@ -82,5 +82,9 @@ fn loose(rng: &mut Prng) -> Draft {
         let effective = rng.below(actual + 1) + u64::from(rng.once_in(8));
         draft.unit(module, recipe, time, actual, effective);
     }
+    // Most of them in sequence, or little behind the states would be met.
+    if !rng.once_in(4) {
+        draft.sort();
+    }
     draft
 }

@@ -1,9 +1,9 @@
-//! Valid logs.
+//! Valid logs, their lists in rising sequence.
 
 use crate::draft::Draft;
 use crate::prng::Prng;
 use crate::records::*;
-use std::collections::BTreeSet;
+use std::collections::{BTreeMap, BTreeSet};
 
 pub const LAST_RECIPE: u64 = 1_023;
 pub const LONGEST_THEORETICAL: u64 = (1 << 27) - 1;
@@ -37,7 +37,6 @@ pub fn draft(rng: &mut Prng) -> Draft {
         let module = rng.index(room.len());
         fill(rng, &mut draft, module as u64, room[module]);
     }
-    arrange(rng, &mut draft);
     draft
 }
 
@@ -179,33 +178,20 @@ fn state_records(rng: &mut Prng, sizes: &Sizes, moments: &[u64]) -> Vec<StateRec
         }
     }
     let down_tool = rng.once_in(20);
-    // Records of equal time: by module rising, falling, or in any sequence.
-    let way = rng.below(4);
-    let mut keyed = Vec::new();
+    let mut records = Vec::new();
     for (module, times) in times.iter().enumerate() {
         let habit = if down_tool { Habit::Down } else { habit(rng) };
-        let module = module as u64;
         for &time in times {
-            let key = match way {
-                0 => module,
-                1 => MOST_MODULES - module,
-                _ => rng.draw(),
-            };
-            let code = code(rng, &habit);
-            keyed.push((
+            records.push(StateRecord {
+                module: module as u64,
+                code: code(rng, &habit),
                 time,
-                key,
-                StateRecord {
-                    module,
-                    code,
-                    time,
-                    spare: 0,
-                },
-            ));
+                spare: 0,
+            });
         }
     }
-    keyed.sort_by_key(|&(time, key, _)| (time, key));
-    keyed.into_iter().map(|(_, _, record)| record).collect()
+    records.sort_by_key(StateRecord::key);
+    records
 }
 
 /// Productive ms of each module of a draft whose state records are valid.
@@ -246,23 +232,19 @@ fn standards(rng: &mut Prng, sizes: &Sizes, moments: &[u64]) -> Vec<Standard> {
         .map(|_| rng.below(LAST_RECIPE + 1))
         .collect();
     recipes[0] = rng.pick(&[0, LAST_RECIPE, 1, 512]);
-    let mut taken = BTreeSet::new();
-    let mut standards = Vec::new();
+    let mut standards = BTreeMap::new();
     for _ in 0..4 * sizes.standards {
         if standards.len() as u64 == sizes.standards {
             break;
         }
-        let recipe = rng.pick(&recipes);
-        let start = moment(rng, moments, sizes.period);
-        if taken.insert((recipe, start)) {
-            standards.push(Standard {
-                recipe,
-                start,
-                theoretical: theoretical(rng),
-            });
-        }
+        let standard = Standard {
+            recipe: rng.pick(&recipes),
+            start: moment(rng, moments, sizes.period),
+            theoretical: theoretical(rng),
+        };
+        standards.insert(standard.key(), standard);
     }
-    standards
+    standards.into_values().collect()
 }
 
 /// The theoretical time in force, if any.
@@ -316,9 +298,9 @@ fn unit_records(
     draft: &Draft,
     room: &mut [u64],
 ) -> Vec<UnitRecord> {
-    let mut units = Vec::new();
+    let mut units = BTreeMap::new();
     if draft.standards.is_empty() {
-        return units;
+        return Vec::new();
     }
     let zero = rng.once_in(10);
     for _ in 0..4 * sizes.units {
@@ -331,6 +313,9 @@ fn unit_records(
             continue;
         };
         let module = rng.index(room.len());
+        if units.contains_key(&(time, module as u64, standard.recipe)) {
+            continue;
+        }
         let most = (room[module] / theoretical).min(MOST_OF_A_RECORD);
         let actual = match rng.below(6) {
             _ if zero => 0,
@@ -340,16 +325,38 @@ fn unit_records(
             _ => rng.between(0, most.min(50)),
         };
         room[module] -= actual * theoretical;
-        units.push(UnitRecord {
+        let unit = UnitRecord {
             module: module as u64,
             recipe: standard.recipe,
             time,
             actual,
             effective: effective(rng, actual),
             spare: 0,
-        });
+        };
+        units.insert(unit.key(), unit);
     }
-    units
+    units.into_values().collect()
+}
+
+/// Adds a standard where it belongs in a rising list.
+pub fn add_standard(draft: &mut Draft, recipe: u64, start: u64, theoretical: u64) {
+    let standard = Standard {
+        recipe,
+        start,
+        theoretical,
+    };
+    let place = draft
+        .standards
+        .partition_point(|other| other.key() < standard.key());
+    draft.standards.insert(place, standard);
+}
+
+/// Adds a unit record where it belongs in a rising list.
+pub fn add_unit(draft: &mut Draft, unit: UnitRecord) {
+    let place = draft
+        .units
+        .partition_point(|other| other.key() < unit.key());
+    draft.units.insert(place, unit);
 }
 
 /// Theoretical times that any production time can be filled with.
@@ -361,42 +368,27 @@ pub fn can_fill(draft: &Draft) -> bool {
         && draft.units.len() + STEPS.len() <= MOST_UNITS as usize
 }
 
-/// Adds units until the module's rate is exactly 1. The last record added has units of 1 ms.
-pub fn fill(rng: &mut Prng, draft: &mut Draft, module: u64, room: u64) {
+/// Adds units of so many ms: as many as are left of the module's production time make a rate of exactly 1.
+pub fn fill(rng: &mut Prng, draft: &mut Draft, module: u64, time_for_units: u64) {
     if !can_fill(draft) {
         return;
     }
-    let mut left = room;
+    let mut left = time_for_units;
     for theoretical in STEPS {
         let recipe = unused_recipe(rng, draft);
         let start = rng.below(draft.period);
         let time = rng.between(start, draft.period - 1);
         let actual = left / theoretical;
         left -= actual * theoretical;
-        draft.standard(recipe, start, theoretical);
-        let effective = effective(rng, actual);
-        draft.unit(module, recipe, time, actual, effective);
-    }
-}
-
-/// Standards and units in any sequence, now and then in a rising or falling one.
-fn arrange(rng: &mut Prng, draft: &mut Draft) {
-    match rng.below(4) {
-        0 => {
-            draft
-                .standards
-                .sort_by_key(|standard| (standard.recipe, standard.start));
-            draft.units.sort_by_key(|unit| (unit.time, unit.module));
-        }
-        1 => {
-            draft
-                .standards
-                .sort_by_key(|standard| (standard.recipe, standard.start));
-            draft.standards.reverse();
-        }
-        _ => {
-            rng.shuffle(&mut draft.standards);
-            rng.shuffle(&mut draft.units);
-        }
+        add_standard(draft, recipe, start, theoretical);
+        let unit = UnitRecord {
+            module,
+            recipe,
+            time,
+            actual,
+            effective: effective(rng, actual),
+            spare: 0,
+        };
+        add_unit(draft, unit);
     }
 }
