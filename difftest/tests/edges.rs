@@ -178,11 +178,163 @@ fn sequence_of_states() {
     two.modules = 2;
     two.state(1, 0, 0);
     assert!(judged(&two).is_ok());
-    two.states.swap(0, 1);
-    assert!(judged(&two).is_ok());
     two.state(1, 7, 5);
     two.state(0, 7, 4);
     refused(&two, 10, STATES, 3);
+}
+
+#[test]
+fn states_of_one_time_by_module() {
+    // Openings, the second module first.
+    let mut openings = bench(10);
+    openings.modules = 2;
+    openings.states.clear();
+    openings.state(1, 0, 0);
+    openings.state(0, 0, 0);
+    refused(&openings, 10, STATES, 1);
+
+    // Changes of one time: modules 0 and 2 pass, module 1 behind 2 does not, though it has no other of that time.
+    let mut changes = bench(10);
+    changes.modules = 3;
+    changes.state(1, 0, 0);
+    changes.state(2, 0, 0);
+    changes.state(0, 7, 5);
+    changes.state(2, 7, 5);
+    assert!(judged(&changes).is_ok());
+    changes.state(1, 7, 5);
+    refused(&changes, 10, STATES, 5);
+    // A later time may be of a lower module.
+    changes.states[5].time = 6;
+    assert!(judged(&changes).is_ok());
+    // The module's own record of that time stands further up.
+    changes.states[5] = changes.states[3];
+    refused(&changes, 10, STATES, 5);
+    // An earlier time.
+    changes.states[5].time = 4;
+    refused(&changes, 10, STATES, 5);
+    // 6 to 9 come ahead of 10.
+    changes.states[5].code = 24;
+    refused(&changes, 8, STATES, 5);
+    changes.states[5].spare = 1;
+    refused(&changes, 6, STATES, 5);
+    // An earlier record's 10 comes ahead of those.
+    changes.states.swap(3, 4);
+    refused(&changes, 10, STATES, 4);
+    // A missing opening comes behind it.
+    openings.modules = 3;
+    refused(&openings, 10, STATES, 1);
+}
+
+#[test]
+fn standards_by_recipe_and_start() {
+    let mut rising = bench(10);
+    rising.standards.clear();
+    rising.standard(3, 5, 1);
+    rising.standard(3, 6, 1);
+    rising.standard(4, 0, 1);
+    assert!(judged(&rising).is_ok());
+
+    for (recipe, start, number) in [
+        // A lower recipe, though a later start.
+        (3, 9, 19),
+        (0, 9, 19),
+        // A start that the lower recipe has not yet.
+        (3, 0, 19),
+        // Equal to the neighbour, and to one further up.
+        (4, 0, 13),
+        (3, 6, 13),
+        (3, 5, 13),
+    ] {
+        let mut broken = rising.clone();
+        broken.standard(recipe, start, 1);
+        refused(&broken, number, STANDARDS, 3);
+    }
+    // The same recipe and an earlier start.
+    let mut earlier = bench(10);
+    earlier.standards[0].start = 2;
+    earlier.standard(0, 1, 1);
+    refused(&earlier, 19, STANDARDS, 1);
+
+    // 9 and 12 come ahead of 19.
+    let mut lower = bench(10);
+    lower.standards[0].recipe = 5;
+    lower.standard(4, 10, 0);
+    refused(&lower, 9, STANDARDS, 1);
+    lower.standards[1].start = 9;
+    refused(&lower, 12, STANDARDS, 1);
+    lower.standards[1].theoretical = 1;
+    refused(&lower, 19, STANDARDS, 1);
+
+    // 19 of a standard comes ahead of a ground of the next one, also of its 13.
+    let mut next = bench(10);
+    next.standard(5, 0, 1);
+    next.standard(4, 0, 1);
+    next.standard(4, 0, 0);
+    refused(&next, 19, STANDARDS, 2);
+    next.standards[3].theoretical = 1;
+    refused(&next, 19, STANDARDS, 2);
+    // With that one in sequence, the next one's own is met.
+    next.standards[2].recipe = 6;
+    refused(&next, 19, STANDARDS, 3);
+    // A unit's ground comes behind that of a standard.
+    next.unit(0, 9, 0, 0, 1);
+    refused(&next, 19, STANDARDS, 3);
+}
+
+#[test]
+fn units_by_time_module_and_recipe() {
+    let mut rising = bench(10);
+    rising.modules = 2;
+    rising.state(1, 0, 0);
+    rising.standard(1, 0, 1);
+    rising.standard(2, 2, 1);
+    rising.unit(1, 0, 1, 1, 1);
+    rising.unit(0, 2, 2, 1, 1);
+    rising.unit(1, 0, 2, 1, 1);
+    rising.unit(1, 1, 2, 1, 1);
+    assert!(judged(&rising).is_ok());
+
+    // (module, recipe, time, actual, effective) of one more record, and its refusal.
+    for ((module, recipe, time, actual, effective), number) in [
+        // An earlier time.
+        ((1, 1, 1, 1, 1), 19),
+        // The same time and a lower module, though a higher recipe.
+        ((0, 2, 2, 1, 1), 19),
+        // The same time and module and a lower recipe.
+        ((1, 0, 2, 1, 1), 19),
+        // Alike in all three, with the same counts and with others.
+        ((1, 1, 2, 1, 1), 19),
+        ((1, 1, 2, 5, 4), 19),
+        // 14 comes ahead of 19, and 15 does.
+        ((0, 0, 0, 1, 2), 14),
+        ((1, 1, 2, 1, 2), 14),
+        ((1, 2, 1, 1, 1), 15),
+        ((0, 3, 2, 1, 1), 15),
+    ] {
+        let mut broken = rising.clone();
+        broken.unit(module, recipe, time, actual, effective);
+        refused(&broken, number, UNITS, 4);
+        broken.units[4].spare = 1;
+        refused(&broken, 6, UNITS, 4);
+    }
+
+    // 19 of record 1 comes ahead of a 6 of record 2 and of a 16.
+    let mut two = bench(10);
+    two.unit(0, 0, 5, 11, 11);
+    two.unit(0, 0, 5, 3, 3);
+    two.unit(0, 0, 6, 1, 1);
+    refused(&two, 19, UNITS, 1);
+    two.units[2].spare = 1;
+    refused(&two, 19, UNITS, 1);
+    // Without it the 6 is met, and without that the 16.
+    two.units[1].time = 6;
+    refused(&two, 6, UNITS, 2);
+    two.units[2] = UnitRecord {
+        time: 7,
+        spare: 0,
+        ..two.units[2]
+    };
+    refused(&two, 16, NO_LIST, 0);
 }
 
 #[test]
@@ -200,8 +352,8 @@ fn openings() {
 fn a_unit_at_a_start() {
     let mut draft = bench(100);
     draft.standards.clear();
-    draft.standard(0, 50, 2);
     draft.standard(0, 20, 3);
+    draft.standard(0, 50, 2);
     let actual_at = |time| {
         let mut draft = draft.clone();
         draft.unit(0, 0, time, 1, 1);
@@ -299,6 +451,6 @@ fn the_longest_report() {
 fn sums_past_32_and_53_bits() {
     let mut draft = bench(LONGEST_PERIOD);
     draft.standards[0].theoretical = 134_217_727;
-    (0..2_000).for_each(|_| draft.unit(0, 0, 0, 65_535, 0));
+    (0..2_000).for_each(|time| draft.unit(0, 0, time, 65_535, 0));
     refused(&draft, 16, NO_LIST, 0);
 }

@@ -1,7 +1,9 @@
 //! The generator makes what it says, and every shape of log that document 01 names.
 
+use difftest::draft::Draft;
 use difftest::generator::{make, Expected};
 use difftest::oracle::{account, in_force, read, Account, Log, Quantities};
+use difftest::prng::Prng;
 use difftest::records::*;
 use difftest::tally::Tally;
 use std::collections::BTreeSet;
@@ -30,6 +32,127 @@ fn a_log_can_be_made_again() {
         assert_eq!(make(5, index).bytes, make(5, index).bytes);
     }
     assert_ne!(make(5, 0).bytes, make(6, 0).bytes);
+}
+
+/// How the record that a log is refused at breaks the rising sequence: by which of its key's fields, and where in the list. None where it does not.
+fn breach(log: &Log, refusal: Refusal) -> Option<String> {
+    let Refusal {
+        number,
+        list,
+        place,
+    } = refusal;
+    let at = place as usize;
+    let keys: Vec<Vec<u64>> = match list {
+        STATES => {
+            let key = |it: &StateRecord| vec![it.time, it.module];
+            log.states.iter().map(key).collect()
+        }
+        STANDARDS => {
+            let key = |it: &Standard| vec![it.recipe, it.start];
+            log.standards.iter().map(key).collect()
+        }
+        UNITS => {
+            let key = |it: &UnitRecord| vec![it.time, it.module, it.recipe];
+            log.units.iter().map(key).collect()
+        }
+        _ => return None,
+    };
+    let (before, own) = (keys.get(at.checked_sub(1)?)?, keys.get(at)?);
+    let parting = (0..own.len()).find(|&field| own[field] != before[field]);
+    let by = match parting {
+        None => String::from("alike"),
+        Some(field) if own[field] < before[field] => format!("by field {field}"),
+        Some(_) => return None,
+    };
+    let again = parting.is_some() && keys[..at].contains(own);
+    let whose = if again { ", as one further up" } else { "" };
+    let position = match at {
+        1 => "second",
+        _ if at + 1 == keys.len() => "last",
+        _ => "middle",
+    };
+    Some(format!("{number} list {list} {by}{whose}, {position}"))
+}
+
+/// Each way to break the sequence of each list, alone and with a ground that is tested ahead of it, at the second record, in the middle and at the last.
+#[test]
+fn every_breach_is_met() {
+    let mut met = BTreeSet::new();
+    for index in 0..LOGS {
+        let made = make(8, index);
+        if let (Expected::Refused(refusal), Ok(log)) = (made.expected, read(&made.bytes)) {
+            met.extend(breach(&log, refusal));
+        }
+    }
+    let ways = [
+        "10 list 1 by field 0",
+        "10 list 1 by field 1",
+        "10 list 1 by field 1, as one further up",
+        "10 list 1 alike",
+        "12 list 2 by field 0",
+        "12 list 2 by field 1",
+        "13 list 2 alike",
+        "13 list 2 by field 0, as one further up",
+        "13 list 2 by field 1, as one further up",
+        "19 list 2 by field 0",
+        "19 list 2 by field 1",
+        "14 list 3 by field 0",
+        "14 list 3 by field 1",
+        "14 list 3 by field 2",
+        "14 list 3 alike",
+        "15 list 3 by field 0",
+        "15 list 3 by field 1",
+        "15 list 3 by field 2",
+        "19 list 3 by field 0",
+        "19 list 3 by field 1",
+        "19 list 3 by field 2",
+        "19 list 3 alike",
+    ];
+    let mut missed = Vec::new();
+    for way in ways {
+        for position in ["second", "middle", "last"] {
+            let due = format!("{way}, {position}");
+            // The second record has only its neighbour further up.
+            let possible = !(position == "second" && way.contains("further up"));
+            if possible && !met.contains(&due) {
+                missed.push(due);
+            }
+        }
+    }
+    assert!(missed.is_empty(), "never made: {missed:?}");
+}
+
+/// R-1's promise: the records of an accepted log in another sequence are no accepted log.
+#[test]
+fn the_same_records_are_the_same_bytes() {
+    let mut other_bytes = 0;
+    for index in 0..LOGS {
+        let bytes = make(9, index).bytes;
+        if account(&bytes).is_err() {
+            continue;
+        }
+        let log = read(&bytes).expect("an accepted log");
+        let mut draft = Draft {
+            period: log.header.period,
+            modules: log.header.modules,
+            states: log.states,
+            standards: log.standards,
+            units: log.units,
+            ..Draft::default()
+        };
+        let mut rng = Prng::new(9, index);
+        match index % 3 {
+            0 => rng.shuffle(&mut draft.states),
+            1 => rng.shuffle(&mut draft.standards),
+            _ => rng.shuffle(&mut draft.units),
+        }
+        let number = if index % 3 == 0 { 10 } else { 19 };
+        let refused = account(&draft.bytes()).err().map(|refusal| refusal.number);
+        let same = draft.bytes() == bytes;
+        assert_eq!(refused, (!same).then_some(number), "log {index}");
+        other_bytes += u64::from(!same);
+    }
+    assert!(other_bytes > LOGS / 5);
 }
 
 /// Names of the shapes that an accepted log has.
@@ -82,21 +205,41 @@ fn shapes(log: &Log, account: &Account) -> Vec<String> {
         })
     });
 
-    let equal_times = |falls: bool| {
-        log.states
-            .windows(2)
-            .any(|pair| pair[0].time == pair[1].time && falls == (pair[0].module > pair[1].module))
-    };
-    note("equal times, modules rising", equal_times(false));
-    note("equal times, modules falling", equal_times(true));
-    note("standards out of sequence", {
-        let out_of_sequence =
-            |pair: &[Standard]| pair[0].recipe == pair[1].recipe && pair[0].start > pair[1].start;
-        log.standards.windows(2).any(out_of_sequence)
+    // Neighbours in sequence that a field behind the first parts, or would part the other way.
+    note("states of one time", {
+        let in_turn =
+            |pair: &[StateRecord]| pair[0].time == pair[1].time && pair[0].module < pair[1].module;
+        log.states.windows(2).any(in_turn)
     });
+    note("states, a later time and a lower module", {
+        let back =
+            |pair: &[StateRecord]| pair[0].time < pair[1].time && pair[0].module > pair[1].module;
+        log.states.windows(2).any(back)
+    });
+    note("standards of one recipe", {
+        let in_turn =
+            |pair: &[Standard]| pair[0].recipe == pair[1].recipe && pair[0].start < pair[1].start;
+        log.standards.windows(2).any(in_turn)
+    });
+    note("standards, a higher recipe and an earlier start", {
+        let back =
+            |pair: &[Standard]| pair[0].recipe < pair[1].recipe && pair[0].start > pair[1].start;
+        log.standards.windows(2).any(back)
+    });
+    let units = |has: &dyn Fn(&UnitRecord, &UnitRecord) -> bool| {
+        log.units.windows(2).any(|pair| has(&pair[0], &pair[1]))
+    };
     note(
-        "units out of sequence",
-        log.units.windows(2).any(|pair| pair[0].time > pair[1].time),
+        "units of one time and module",
+        units(&|a, b| a.time == b.time && a.module == b.module && a.recipe < b.recipe),
+    );
+    note(
+        "units of one time, a higher module and a lower recipe",
+        units(&|a, b| a.time == b.time && a.module < b.module && a.recipe > b.recipe),
+    );
+    note(
+        "units, a later time, a lower module and a lower recipe",
+        units(&|a, b| a.time < b.time && a.module > b.module && a.recipe > b.recipe),
     );
     let at_start_less = |less: u64| {
         log.units.iter().any(|unit| {
@@ -158,10 +301,13 @@ fn every_shape_is_met() {
             "production without units",
             "units without good ones",
             "an exact half in the fifth place",
-            "equal times, modules rising",
-            "equal times, modules falling",
-            "standards out of sequence",
-            "units out of sequence",
+            "states of one time",
+            "states, a later time and a lower module",
+            "standards of one recipe",
+            "standards, a higher recipe and an earlier start",
+            "units of one time and module",
+            "units of one time, a higher module and a lower recipe",
+            "units, a later time, a lower module and a lower recipe",
             "unit at a start",
             "unit 1 ms before a start",
             "later standard in force than the first that covers",
