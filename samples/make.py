@@ -53,7 +53,8 @@ def in_turn(module, stretches):
 
 
 def by_time(*lists):
-    return sorted((record for records in lists for record in records), key=lambda record: record[2])
+    """State records by time, those of equal time by module."""
+    return sorted((record for records in lists for record in records), key=lambda record: (record[2], record[0]))
 
 
 def case_w():
@@ -159,6 +160,19 @@ def longest():
     return made
 
 
+SAME_SHIFT_STATES = [(0, REGULAR, 0), (1, REGULAR, 0), (2, NO_PRODUCT, 0), (2, REGULAR, 1 * HOUR), (1, SET_UP, 3 * HOUR),
+                     (1, REGULAR, hours(3.5)), (0, PREVENTIVE, 5 * HOUR), (2, NO_PRODUCT, 5 * HOUR), (0, REGULAR, 6 * HOUR),
+                     (1, REPAIR, 7 * HOUR)]
+SAME_SHIFT_STANDARDS = [(3, 0, 90 * SECOND), (3, 4 * HOUR, 80 * SECOND), (7, 0, 150 * SECOND)]
+SAME_SHIFT_UNITS = [(0, 3, 2 * HOUR, 70, 68), (1, 7, 2 * HOUR, 45, 45), (0, 3, 4 * HOUR, 75, 75), (0, 7, 4 * HOUR, 4, 4),
+                    (2, 3, 4 * HOUR, 90, 88), (2, 3, 5 * HOUR, 45, 45), (0, 3, 7 * HOUR, 60, 59), (1, 7, 7 * HOUR, 60, 58)]
+
+
+def same_shift(states=SAME_SHIFT_STATES, standards=SAME_SHIFT_STANDARDS, units=SAME_SHIFT_UNITS):
+    """A shift of three modules and two recipes. Another controller lists the same records in another sequence."""
+    return log(8 * HOUR, 3, states, standards, units)
+
+
 def shift(period=8 * HOUR, modules=1, states=((0, REGULAR, 0),), standards=((3, 0, MINUTE),), units=((0, 3, HOUR, 60, 58),)):
     """A shift of one module and one recipe. Nothing is wrong with it but what is given."""
     return log(period, modules, states, standards, units)
@@ -172,6 +186,7 @@ SAMPLES = {
     "etcher": etcher,
     "wide": wide,
     "longest": longest,
+    "same-shift": same_shift,
     # One for each number from 2 to 16.
     "refused-period": lambda: shift(period=367 * DAY),
     "refused-modules": lambda: shift(modules=65),
@@ -190,6 +205,10 @@ SAMPLES = {
                                          units=[(0, 2, HOUR, 60, 58), (0, 3, 2 * HOUR - 1, 60, 58)]),
     "refused-too-fast": lambda: shift(modules=2, states=[(0, REGULAR, 0), (1, REGULAR, 0), (1, NO_PRODUCT, HOUR)],
                                       units=[(0, 3, HOUR, 400, 396), (1, 3, HOUR, 61, 61)]),
+    # The same shift with module 1's opening ahead of module 0's, its standards by start, its units module by module.
+    "refused-module-sequence": lambda: same_shift(states=[SAME_SHIFT_STATES[1], SAME_SHIFT_STATES[0], *SAME_SHIFT_STATES[2:]]),
+    "refused-unsorted-standards": lambda: same_shift(standards=sorted(SAME_SHIFT_STANDARDS, key=lambda standard: standard[1])),
+    "refused-unsorted": lambda: same_shift(units=sorted(SAME_SHIFT_UNITS, key=lambda unit: unit[0])),
 }
 
 if __name__ == "__main__":

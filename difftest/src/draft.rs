@@ -1,5 +1,6 @@
 //! A log in the making: records that need not be valid, packed into bytes.
 
+use crate::oracle::Log;
 use crate::records::*;
 
 #[derive(Clone, Debug, Default)]
@@ -60,6 +61,18 @@ impl UnitRecord {
 }
 
 impl Draft {
+    /// The records of a log that was read.
+    pub fn of(log: Log) -> Draft {
+        Draft {
+            period: log.header.period,
+            modules: log.header.modules,
+            states: log.states,
+            standards: log.standards,
+            units: log.units,
+            ..Draft::default()
+        }
+    }
+
     /// Brings the three lists into rising sequence. Records with equal keys stay side by side.
     pub fn sort(&mut self) {
         self.states.sort_by_key(StateRecord::key);

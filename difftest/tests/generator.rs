@@ -131,15 +131,7 @@ fn the_same_records_are_the_same_bytes() {
         if account(&bytes).is_err() {
             continue;
         }
-        let log = read(&bytes).expect("an accepted log");
-        let mut draft = Draft {
-            period: log.header.period,
-            modules: log.header.modules,
-            states: log.states,
-            standards: log.standards,
-            units: log.units,
-            ..Draft::default()
-        };
+        let mut draft = Draft::of(read(&bytes).expect("an accepted log"));
         let mut rng = Prng::new(9, index);
         match index % 3 {
             0 => rng.shuffle(&mut draft.states),

@@ -41,7 +41,7 @@ fn expected_output() {
             samples += 1;
         }
     }
-    assert_eq!(samples, 22);
+    assert_eq!(samples, 26);
 }
 
 /// The tables that `toollog` has to print of each accepted sample.
@@ -70,7 +70,7 @@ fn expected_tables() {
         }
         tables += 1;
     }
-    assert_eq!(tables, 14);
+    assert_eq!(tables, 16);
 }
 
 /// 002, R1-2: the hours of module B and of the tool, in ms.
@@ -156,15 +156,8 @@ fn etcher_by_each_standard() {
         output(&etcher),
         bench_report("0.9405 0.8861 0.7302 0.9938 0.6047")
     );
-    let log = read(&etcher).expect("well formed");
-    let first_only = Draft {
-        period: log.header.period,
-        modules: log.header.modules,
-        states: log.states,
-        standards: log.standards[..1].to_vec(),
-        units: log.units,
-        ..Draft::default()
-    };
+    let mut first_only = Draft::of(read(&etcher).expect("well formed"));
+    first_only.standards.truncate(1);
     assert_eq!(
         output(&first_only.bytes()),
         bench_report("0.9405 0.8861 0.9524 0.9938 0.7887")
@@ -194,6 +187,33 @@ fn longest_log_and_report() {
     assert_eq!(output(&lengthened), "refused 5 list 0 at 0\n");
 }
 
+/// The shift of three modules by hand, in s: module 0 is productive for 25,200 of 28,800 and makes 70 units of 90 s, 75 and 60 of 80 s and 4 of
+/// 150 s, of which 2 of 90 s and 1 of 80 s are not effective; module 1 for 23,400, 105 units of 150 s less 2; module 2 for 14,400 with 14,400 of
+/// standby, 135 of 80 s less 2.
+#[test]
+fn same_shift() {
+    assert_eq!(
+        output(&log("same-shift")),
+        "module avail oper rate qual oee\n\
+         0 0.8750 1.0000 0.7024 0.9853 0.6056\n\
+         1 0.8125 1.0000 0.6731 0.9810 0.5365\n\
+         2 1.0000 0.5000 0.7500 0.9852 0.3694\n\
+         tool 0.8958 0.8140 0.7024 0.9837 0.5038\n"
+    );
+}
+
+/// In rising sequence, the logs of the same shift are the same bytes.
+#[test]
+fn same_bytes() {
+    for name in ["module-sequence", "unsorted-standards", "unsorted"] {
+        let other = log(&format!("refused-{name}"));
+        assert_ne!(other, log("same-shift"), "{name}");
+        let mut draft = Draft::of(read(&other).expect("well formed"));
+        draft.sort();
+        assert_eq!(draft.bytes(), log("same-shift"), "{name}");
+    }
+}
+
 fn ascend<T: PartialOrd>(keys: impl Iterator<Item = T>) -> bool {
     keys.is_sorted_by(|one, next| one < next)
 }
@@ -209,6 +229,7 @@ fn lists_in_sequence() {
         "etcher",
         "wide",
         "longest",
+        "same-shift",
     ] {
         let log = read(&log(name)).expect("well formed");
         assert!(
@@ -226,7 +247,7 @@ fn lists_in_sequence() {
     }
 }
 
-/// One sample for each number from 2 to 16.
+/// One sample for each number from 2 to 16, and one for each list in another sequence.
 #[test]
 fn refused_by_number() {
     let lines = [
@@ -245,6 +266,9 @@ fn refused_by_number() {
         ("over-good", "14 list 3 at 0"),
         ("no-standard", "15 list 3 at 1"),
         ("too-fast", "16 list 0 at 1"),
+        ("module-sequence", "10 list 1 at 1"),
+        ("unsorted-standards", "19 list 2 at 2"),
+        ("unsorted", "19 list 3 at 4"),
     ];
     for (name, line) in lines {
         let refused = log(&format!("refused-{name}"));
