@@ -16,11 +16,7 @@ const OF_THE_RECORDS: [u64; 15] = [6, 7, 8, 9, 10, 10, 11, 12, 13, 14, 15, 16, 1
 /// A copy of the draft with one fault, and its refusal.
 pub fn one(rng: &mut Prng, draft: &Draft) -> (Draft, Refusal) {
     loop {
-        let number = if rng.once_in(4) {
-            rng.pick(&OF_THE_HEADER)
-        } else {
-            rng.pick(&OF_THE_RECORDS)
-        };
+        let number = number(rng, 4);
         let mut damaged = draft.clone();
         if let Some(refusal) = put(rng, number, &mut damaged) {
             return (damaged, refusal);
@@ -33,14 +29,19 @@ pub fn several(rng: &mut Prng, draft: &Draft) -> Draft {
     let mut damaged = draft.clone();
     for _ in 0..rng.between(2, 5) {
         // Most of them behind the header, so that faults of records meet each other.
-        let number = if rng.once_in(18) {
-            rng.pick(&OF_THE_HEADER)
-        } else {
-            rng.pick(&OF_THE_RECORDS)
-        };
+        let number = number(rng, 18);
         put(rng, number, &mut damaged);
     }
     damaged
+}
+
+/// One of the header once in so many, else one of the records.
+fn number(rng: &mut Prng, header_once_in: u64) -> u64 {
+    if rng.once_in(header_once_in) {
+        rng.pick(&OF_THE_HEADER)
+    } else {
+        rng.pick(&OF_THE_RECORDS)
+    }
 }
 
 /// None where the draft has no place for such a fault.
