@@ -1,4 +1,4 @@
-//! The logs that are measured.
+//! The logs that are measured, their lists in rising sequence.
 
 use difftest::draft::Draft;
 use difftest::prng::Prng;
@@ -23,8 +23,8 @@ pub fn variants() -> Vec<Variant> {
             log: longest_many_recipes(),
         },
         Variant {
-            name: "longest, one recipe in any sequence",
-            log: longest_any_sequence(),
+            name: "longest, one recipe, units anywhere",
+            log: longest_units_anywhere(),
         },
         Variant {
             name: "typical week of three modules",
@@ -58,7 +58,7 @@ fn longest(rng: &mut Prng) -> Draft {
     draft
 }
 
-/// 512 revisions of one recipe by start, every unit behind the last of them.
+/// 512 revisions of one recipe, every unit behind the last of them.
 fn longest_one_recipe() -> Vec<u8> {
     let rng = &mut Prng::new(1, 0);
     let mut draft = longest(rng);
@@ -76,10 +76,11 @@ fn longest_one_recipe() -> Vec<u8> {
             rng.between(0, actual),
         );
     }
+    draft.sort();
     draft.bytes()
 }
 
-/// 128 recipes of four revisions each, in any sequence, units anywhere.
+/// 128 recipes of four revisions each, units anywhere.
 fn longest_many_recipes() -> Vec<u8> {
     let rng = &mut Prng::new(2, 0);
     let mut draft = longest(rng);
@@ -88,7 +89,6 @@ fn longest_many_recipes() -> Vec<u8> {
         let start = revision * (LONGEST_PERIOD / 4) + revision * rng.below(1_000_000);
         draft.standard(8 * recipe, start, rng.between(50_000, 300_000));
     }
-    rng.shuffle(&mut draft.standards);
     for _ in 0..MOST_UNITS {
         let (module, recipe) = (rng.below(MOST_MODULES), 8 * rng.below(128));
         let actual = rng.between(1, 50);
@@ -100,22 +100,23 @@ fn longest_many_recipes() -> Vec<u8> {
             rng.between(0, actual),
         );
     }
+    draft.sort();
     draft.bytes()
 }
 
-/// 512 revisions of one recipe in any sequence, units anywhere.
-fn longest_any_sequence() -> Vec<u8> {
+/// 512 revisions of one recipe, units anywhere.
+fn longest_units_anywhere() -> Vec<u8> {
     let rng = &mut Prng::new(4, 0);
     let mut draft = longest(rng);
     for revision in 0..MOST_STANDARDS {
         draft.standard(7, revision * (LONGEST_PERIOD / 512), 200_000 - revision);
     }
-    rng.shuffle(&mut draft.standards);
     for _ in 0..MOST_UNITS {
         let (module, time) = (rng.below(MOST_MODULES), rng.below(LONGEST_PERIOD));
         let actual = rng.between(1, 50);
         draft.unit(module, 7, time, actual, rng.between(0, actual));
     }
+    draft.sort();
     draft.bytes()
 }
 
@@ -138,5 +139,6 @@ fn typical() -> Vec<u8> {
         let time = (lot + 1) * (WEEK / 121);
         draft.unit(lot % 3, rng.below(5), time, 25, 25 - rng.below(2));
     }
+    draft.sort();
     draft.bytes()
 }

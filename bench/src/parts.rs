@@ -1,4 +1,4 @@
-//! What both plain programs share: header, state records and the printed report.
+//! What both plain programs share: header, state records, standards and the printed report.
 
 use difftest::records::*;
 
@@ -21,6 +21,7 @@ const STATE_OF_CODE: [u8; 32] = [
 
 /// Where the fields of a state record's 48 bits are.
 const MODULE_SHIFT: u32 = 42;
+const MODULE_BITS: u32 = 6;
 const CODE_SHIFT: u32 = 37;
 const TIME_SHIFT: u32 = 2;
 const SPARE_MASK: u64 = 3;
@@ -114,16 +115,17 @@ pub fn times(lists: &Lists) -> Result<Times, Refusal> {
         let time = word & SHIFTED_TIME_MASK;
         let before = open[module];
         let since = before >> STATE_BITS;
+        // By time and module; with that each module's own times rise.
+        let key = time << MODULE_BITS | module as u64;
         let bad = (word >= modules_end)
             | (code > 23)
             | (time >= period_end)
-            | (time < latest)
-            | (time <= since)
+            | (key <= latest)
             | (word & SPARE_MASK != 0);
         if bad {
             return Err(state_refusal(word, lists, place));
         }
-        latest = time;
+        latest = key;
         counters[module][(before & STATE_MASK) as usize] += time - since;
         open[module] = time << STATE_BITS | u64::from(STATE_OF_CODE[code as usize]);
     }
@@ -168,8 +170,12 @@ fn openings(
         }
         let module = (word >> MODULE_SHIFT) as usize;
         let code = word >> CODE_SHIFT & 31;
-        let twice = openings.modules >> module & 1 != 0;
-        if word & SPARE_MASK != 0 || module >= lists.modules || code > 23 || twice {
+        let not_above_the_one_before = openings.modules >> module != 0;
+        if word & SPARE_MASK != 0
+            || module >= lists.modules
+            || code > 23
+            || not_above_the_one_before
+        {
             return Err(state_refusal(word, lists, place));
         }
         openings.modules |= 1 << module;
@@ -196,8 +202,80 @@ fn state_refusal(word: u64, lists: &Lists, place: usize) -> Refusal {
     Refusal::new(number, STATES, place)
 }
 
+pub const STANDARDS_MOST: usize = MOST_STANDARDS as usize;
+
+/// A standard's recipe above the 35 bits of its start; for a unit record, its recipe above its time.
+#[inline(always)]
+pub fn recipe_and_time(recipe: u64, time: u64) -> u64 {
+    recipe << 35 | time
+}
+
+/// The standards in list sequence, which rises. Ahead of them and behind them stands a key above every other.
+pub struct Standards {
+    pub count: usize,
+    pub keys: [u64; STANDARDS_MOST + 2],
+    pub theoretical: [u32; STANDARDS_MOST + 1],
+}
+
+impl Standards {
+    pub fn none() -> Standards {
+        Standards {
+            count: 0,
+            keys: [u64::MAX; STANDARDS_MOST + 2],
+            theoretical: [0; STANDARDS_MOST + 1],
+        }
+    }
+
+    /// Grounds 9, 12, 13 and 19. `begins` is told of each recipe and its first place, from 1 on.
+    #[inline(always)]
+    pub fn read(
+        &mut self,
+        lists: &Lists,
+        mut begins: impl FnMut(usize, usize),
+    ) -> Result<(), Refusal> {
+        let mut least = 0;
+        let mut recipe_before = u64::MAX;
+        let records = records::<9>(lists.standards).iter();
+        for (place, record) in records.enumerate().take(STANDARDS_MOST) {
+            let key = eight(record, 0) >> 19;
+            let theoretical = (eight(record, 1) & 0x7ff_ffff) as u32;
+            if (key & TIME_MASK >= lists.period) | (theoretical == 0) | (key < least) {
+                let earlier = &self.keys[1..=place];
+                return Err(standard_refusal(key, theoretical, earlier, lists));
+            }
+            least = key + 1;
+            self.count = place + 1;
+            self.keys[place + 1] = key;
+            self.theoretical[place + 1] = theoretical;
+            let recipe = key >> 35;
+            if recipe != recipe_before {
+                begins(recipe as usize, place + 1);
+                recipe_before = recipe;
+            }
+        }
+        Ok(())
+    }
+}
+
+/// The first ground that a standard known to be bad meets, behind these keys.
+#[cold]
+fn standard_refusal(key: u64, theoretical: u32, earlier: &[u64], lists: &Lists) -> Refusal {
+    let number = if key & TIME_MASK >= lists.period {
+        9
+    } else if theoretical == 0 {
+        12
+    } else if earlier.contains(&key) {
+        13
+    } else {
+        19
+    };
+    Refusal::new(number, STANDARDS, earlier.len())
+}
+
 /// A unit record's fields.
 pub struct Unit {
+    /// Time, module and recipe, which its list rises by.
+    pub key: u64,
     pub module: usize,
     pub recipe: u64,
     pub time: u64,
@@ -212,6 +290,7 @@ impl Unit {
         let front = eight(record, 0);
         let back = eight(record, 3);
         Unit {
+            key: (front >> 13 & TIME_MASK) << 16 | front >> 48,
             module: (front >> 58) as usize,
             recipe: front >> 48 & 0x3ff,
             time: front >> 13 & TIME_MASK,
@@ -224,10 +303,10 @@ impl Unit {
     /// Does it meet one of the grounds 6, 7, 9 and 14?
     #[inline(always)]
     pub fn is_bad(&self, lists: &Lists) -> bool {
-        self.spare != 0
-            || self.module >= lists.modules
-            || self.time >= lists.period
-            || self.effective > self.actual
+        (self.spare != 0)
+            | (self.module >= lists.modules)
+            | (self.time >= lists.period)
+            | (self.effective > self.actual)
     }
 
     #[cold]
