@@ -1,6 +1,6 @@
 #!/usr/bin/env python3
-"""Makes the input of the program `cases` and what it must print: the edge cases of document 01, the printed figures of 002 and of
-003's worked example, and inputs that are no log, as reports and through the calls for state times, quantities and doubles. What each
+"""Makes the input of the program `cases` and what it must print: the edge cases of document 01 and of R-1, the printed figures of 002 and
+of 003's worked example, and inputs that are no log, as reports and through the calls for state times, quantities and doubles. What each
 must give is written here from those papers: hours as 002 prints them, doubles from exact fractions. Nothing is taken from the library."""
 
 import struct
@@ -79,6 +79,11 @@ def up(length, period):
     return log(period, 1, [(0, 0, 0), (0, 22, length)], [], [])
 
 
+def listed(states=((0, 0, 0), (1, 0, 0)), standards=((0, 0, 1), (1, 0, 1)), units=()):
+    """Ten milliseconds of two modules and two recipes. Nothing is wrong with it but what is given."""
+    return log(10, 2, states, standards, units)
+
+
 def lines(modules, figures):
     return HEADING + "".join(f"{module} {figures}" for module in range(modules)) + "tool " + figures
 
@@ -86,6 +91,29 @@ def lines(modules, figures):
 assert len(CASE_W) == 183
 
 TWO = [(0, 2), (4, 3)]  # start and theoretical time
+
+# R-1's rising sequence: name, log, expected text
+IN_SEQUENCE = listed(units=[(0, 1, 5, 1, 1), (1, 0, 5, 1, 1), (1, 1, 5, 1, 1), (0, 0, 6, 1, 1)])
+UNITS_ALIKE = listed(units=[(0, 0, 5, 1, 1), (0, 0, 5, 2, 1), (0, 0, 6, 1, 1)])
+LOWER_RECIPE = listed(standards=[(1, 0, 1), (0, 5, 1)])
+LOWER_MODULE = listed(states=[(1, 0, 0), (0, 0, 0)])
+SEQUENCES = [
+    ("in sequence", IN_SEQUENCE, lines(2, "1.0000 1.0000 0.2000 1.0000 0.2000\n")),
+    ("openings, a lower module", LOWER_MODULE, refused(10, 1, 1)),
+    ("changes, a lower module", listed(states=[(0, 0, 0), (1, 0, 0), (1, 7, 5), (0, 7, 5)]), refused(10, 1, 3)),
+    ("standards, a lower recipe", LOWER_RECIPE, refused(19, 2, 1)),
+    ("standards, an earlier start", listed(standards=[(0, 5, 1), (0, 4, 1)]), refused(19, 2, 1)),
+    ("standards, an equal neighbour", listed(standards=[(0, 5, 1), (0, 5, 2)]), refused(13, 2, 1)),
+    ("standards, an equal one further up", listed(standards=[(0, 0, 1), (1, 0, 1), (0, 0, 2)]), refused(13, 2, 2)),
+    ("standards, 12 ahead of 19", listed(standards=[(1, 0, 1), (0, 0, 0)]), refused(12, 2, 1)),
+    ("units, an earlier time", listed(units=[(0, 0, 5, 1, 1), (1, 1, 4, 1, 1)]), refused(19, 3, 1)),
+    ("units, a lower module", listed(units=[(1, 0, 5, 1, 1), (0, 1, 5, 1, 1)]), refused(19, 3, 1)),
+    ("units, a lower recipe", listed(units=[(0, 1, 5, 1, 1), (0, 0, 5, 1, 1)]), refused(19, 3, 1)),
+    ("units alike, other counts", UNITS_ALIKE, refused(19, 3, 1)),
+    ("units, 14 ahead of 19", listed(units=[(0, 0, 5, 1, 1), (0, 0, 4, 1, 2)]), refused(14, 3, 1)),
+    ("units, 15 ahead of 19", listed(units=[(0, 0, 5, 1, 1), (0, 2, 4, 1, 1)]), refused(15, 3, 1)),
+    ("units, 19 ahead of the next one's 6", UNITS_ALIKE[:-1] + bytes([UNITS_ALIKE[-1] | 1]), refused(19, 3, 1)),
+]
 
 # name, log, length of the buffer, expected text; the starred cases of document 01 by their numbers
 REPORTS = [
@@ -130,6 +158,7 @@ REPORTS = [
     ("70,000 bytes", case_w() + bytes(70_000 - 100), ROOM, refused(5)),
     ("70,000 zeros", bytes(70_000), ROOM, refused(2)),
     ("no bytes for no buffer", b"", 0, refused(1)),
+    *((name, data, ROOM, text) for name, data, text in SEQUENCES),
 ]
 
 # the same for `write_report`, which writes nothing for a refused log
@@ -150,6 +179,7 @@ PRINTS = [
     ("no bytes, print", b"", refused(1)),
     ("code 24, print", changed(24, 5), refused(8, 1, 1)),
     ("one byte long, print", case_w() + b"\0", refused(5)),
+    ("units alike, print", UNITS_ALIKE, refused(19, 3, 1)),
 ]
 
 
@@ -284,6 +314,9 @@ CALLS = [
     *turned_back_by(CALLED, "no standard", made(TWO[1:], (3, 1, 1)), 0, 15, 3, 0),
     *turned_back_by(CALLED, "no opening of module 2", productive(10, 3, 2), 1, 11, 0, 2),
     *turned_back_by(CALLED, "one byte short, module 9", case_w()[:-1], 9, 5),
+    *turned_back_by(CALLED, "a lower module", LOWER_MODULE, 0, 10, 1, 1),
+    *turned_back_by(CALLED, "a lower recipe", LOWER_RECIPE, 0, 19, 2, 1),
+    *turned_back_by(CALLED, "units alike", UNITS_ALIKE, 1, 19, 3, 1),
     # a module that an accepted log does not have
     *turned_back_by(OF_MODULE, "stray module 3", case_w(), 3, 7, 0, 3),
     *turned_back_by(OF_MODULE, "stray module 2^32 - 1", case_w(), 2**32 - 1, 7, 0, 2**32 - 1),
