@@ -91,7 +91,7 @@ enum { TL_NUMBER, TL_LIST, TL_PLACE, TL_REFUSAL };
     X(7, "stray module", "module at or above the module count") \
     X(8, "stray code", "sub-state code above 23") \
     X(9, "outside", "time or start at or past the period") \
-    X(10, "sequence", "state record earlier than the one before, or not later than its own module's last") \
+    X(10, "sequence", "time, then module, not above the record before, or not later than its own module's last") \
     X(11, "no opening", "a module whose first record is not at time 0, or that has none") \
     X(12, "no time", "theoretical time 0") \
     X(13, "twice", "recipe and start both equal to an earlier standard's") \
@@ -99,7 +99,8 @@ enum { TL_NUMBER, TL_LIST, TL_PLACE, TL_REFUSAL };
     X(15, "no standard", "none in force for a unit record") \
     X(16, "too fast", "a module's actual theoretical time above its production time") \
     X(17, "too great", "a tool sum above 9,007,199,254,740,991 ms") \
-    X(18, "short buffer", "report longer than the buffer")
+    X(18, "short buffer", "report longer than the buffer") \
+    X(19, "unsorted", "out of rising sequence: standards by recipe and start, units by time, module and recipe")
 
 enum {
     TL_NO_HEADER = 1,
@@ -119,12 +120,13 @@ enum {
     TL_NO_STANDARD,
     TL_TOO_FAST,
     TL_TOO_GREAT,
-    TL_SHORT_BUFFER
+    TL_SHORT_BUFFER,
+    TL_UNSORTED
 };
 
 /*
  * Whether the log is accepted and its report fits a buffer of `room` bytes. Nothing is written but `refusal`.
- * Refused with 1 to 17: the log itself. Refused with 18: the log is accepted, and its report is longer than `room`.
+ * Refused with 18: the log is accepted, and its report is longer than `room`. With any other number: the log itself.
  * With a `room` of TL_LONGEST_REPORT or more the answer is about the log alone.
  */
 uint32_t tl_examine(const uint8_t *log, size_t log_len, size_t room, uint64_t refusal[3]);

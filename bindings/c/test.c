@@ -225,7 +225,7 @@ static void random_bytes(void)
         if (number)
             refused(bytes, length, number, 0, 0);
         else
-            CHECK(tl_examine(bytes, length, 0, why) == 0 && why[TL_NUMBER] >= TL_SPARE && why[TL_NUMBER] <= TL_SHORT_BUFFER);
+            CHECK(tl_examine(bytes, length, 0, why) == 0 && why[TL_NUMBER] >= TL_SPARE && why[TL_NUMBER] <= TL_UNSORTED);
     }
 }
 
@@ -235,8 +235,8 @@ static void tables(void)
 #define NUMBER(number, word, ground) number,
 #define ENTRY(entry, name) entry,
     const int numbers[] = {TL_REFUSALS(NUMBER)}, lists[] = {TL_LISTS(ENTRY)}, states[] = {TL_STATES(ENTRY)};
-    CHECK(sizeof numbers / sizeof *numbers == TL_SHORT_BUFFER && sizeof lists / sizeof *lists == 4 && sizeof states / sizeof *states == TL_TIMES);
-    for (int i = 0; i < TL_SHORT_BUFFER; i++)
+    CHECK(sizeof numbers / sizeof *numbers == TL_UNSORTED && sizeof lists / sizeof *lists == 4 && sizeof states / sizeof *states == TL_TIMES);
+    for (int i = 0; i < TL_UNSORTED; i++)
         CHECK(numbers[i] == i + 1);
     for (int i = 0; i < 4; i++)
         CHECK(lists[i] == i);

@@ -27,7 +27,7 @@ REFUSALS = {
     7: ("stray module", "module at or above the module count"),
     8: ("stray code", "sub-state code above 23"),
     9: ("outside", "time or start at or past the period"),
-    10: ("sequence", "state record earlier than the one before, or not later than its own module's last"),
+    10: ("sequence", "time, then module, not above the record before, or not later than its own module's last"),
     11: ("no opening", "a module whose first record is not at time 0, or that has none"),
     12: ("no time", "theoretical time 0"),
     13: ("twice", "recipe and start both equal to an earlier standard's"),
@@ -36,11 +36,12 @@ REFUSALS = {
     16: ("too fast", "a module's actual theoretical time above its production time"),
     17: ("too great", "a tool sum above 9,007,199,254,740,991 ms"),
     18: ("short buffer", "report longer than the buffer"),
+    19: ("unsorted", "out of rising sequence: standards by recipe and start, units by time, module and recipe"),
 }
 
 
 class Refused(Exception):
-    """A log turned back: its number (1 to 18), list (0 none, 1 states, 2 standards, 3 units), place, and the words for them.
+    """A log turned back: its number (1 to 19), list (0 none, 1 states, 2 standards, 3 units), place, and the words for them.
 
     The place is the record's index from 0, or the module for 11, 16 and a 7 with list 0.
     """

@@ -32,12 +32,13 @@ pub enum Ground {
     TooFast,
     TooGreat,
     ShortBuffer,
+    Unsorted,
 }
 
 use Ground::*;
 
 /// Each ground with its trade word and what it says, by number from 1.
-pub const GROUNDS: [(Ground, &str, &str); 18] = [
+pub const GROUNDS: [(Ground, &str, &str); 19] = [
     (NoHeader, "no header", "under 10 bytes"),
     (Period, "period", "0 or over 366 days (31,622,400,000 ms)"),
     (Modules, "modules", "0 or over 64"),
@@ -47,7 +48,7 @@ pub const GROUNDS: [(Ground, &str, &str); 18] = [
     (StrayModule, "stray module", "module at or above the module count"),
     (StrayCode, "stray code", "sub-state code above 23"),
     (Outside, "outside", "time or start at or past the period"),
-    (Sequence, "sequence", "state record earlier than the one before, or not later than its own module's last"),
+    (Sequence, "sequence", "time, then module, not above the record before, or not later than its own module's last"),
     (NoOpening, "no opening", "a module whose first record is not at time 0, or that has none"),
     (NoTime, "no time", "theoretical time 0"),
     (Twice, "twice", "recipe and start both equal to an earlier standard's"),
@@ -56,6 +57,7 @@ pub const GROUNDS: [(Ground, &str, &str); 18] = [
     (TooFast, "too fast", "a module's actual theoretical time above its production time"),
     (TooGreat, "too great", "a tool sum above 9,007,199,254,740,991 ms"),
     (ShortBuffer, "short buffer", "report longer than the buffer"),
+    (Unsorted, "unsorted", "out of rising sequence: standards by recipe and start, units by time, module and recipe"),
 ];
 
 /// The list that a refused record stands in.

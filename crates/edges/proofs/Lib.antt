@@ -1,3 +1,4 @@
 pub mod ByStretches
 pub mod StarredCases
 pub mod CaseWWhole
+pub mod SequenceCases

@@ -12,7 +12,7 @@ use Rattle.edges.specs.Cases.{Claim, answers, credits, reports, multipli
 use Rattle.edges.proofs.ByStretches.{verdictBy, verdict-by-stretches, reportBy, report-by-stretches}
 
 -- what computes for a claim: its verdict and its report by stretches
-abbrev Computes : Claim → Type 0
+abbrev pub Computes : Claim → Type 0
 Computes (answers s v) = verdictBy s ≡ v
 Computes (credits s m t) = actualTime (decode s) m ≡ t
 Computes (reports s text) = reportBy (decode s) ≡ text
@@ -29,11 +29,11 @@ holds (prints n d text) e = e
 holds (lines q text) e = e
 
 infixr 20 _and_
-data AllCompute : List Claim → Type 0 where
+pub data AllCompute : List Claim → Type 0 where
   done : AllCompute []
   _and_ : {c : Claim} {cs : List Claim} → Computes c → AllCompute cs → AllCompute (c ∷ cs)
 
-all : {cs : List Claim} → AllCompute cs → All cs
+pub all : {cs : List Claim} → AllCompute cs → All cs
 all done = tt
 all (_and_ {c = c} e es) = (holds c e, all es)
 

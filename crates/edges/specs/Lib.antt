@@ -1,2 +1,3 @@
 pub mod Cases
 pub mod CaseW
+pub mod Sequences
