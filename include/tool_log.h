@@ -142,27 +142,27 @@ size_t tl_report(const uint8_t *log, size_t log_len, uint8_t *buf, size_t buf_le
 
 /*
  * The six state times of a module, in ms, by TL_STATES. Each is the number of the period's milliseconds that the module was in that state; they add
- * up to the period. Refused with 1 to 17.
+ * up to the period. Refused where the log is.
  */
 uint32_t tl_module_state_times(const uint8_t *log, size_t log_len, size_t module, uint64_t times[6], uint64_t refusal[3]);
 
-/* The six state times of the tool, in ms: each is the sum of its modules'. Refused with 1 to 17. */
+/* The six state times of the tool, in ms: each is the sum of its modules'. Refused where the log is. */
 uint32_t tl_tool_state_times(const uint8_t *log, size_t log_len, uint64_t times[6], uint64_t refusal[3]);
 
-/* The five quantities of a module, in ms: total, uptime, production, actual, effective. Refused with 1 to 17. */
+/* The five quantities of a module, in ms: total, uptime, production, actual, effective. Refused where the log is. */
 uint32_t tl_module_quantities(const uint8_t *log, size_t log_len, size_t module, uint64_t quantities[5], uint64_t refusal[3]);
 
-/* The five quantities of the tool, in ms: each is the sum of its modules'. Refused with 1 to 17. */
+/* The five quantities of the tool, in ms: each is the sum of its modules'. Refused where the log is. */
 uint32_t tl_tool_quantities(const uint8_t *log, size_t log_len, uint64_t quantities[5], uint64_t refusal[3]);
 
 /*
  * The figures of a module: availability, operational, rate, quality, OEE, product, each from 0 to 1.
  * based[i] is 1 where figures[i] has a base, for i from 0 to 3. It is 0 where the denominator is 0; figures[i] is then NaN, which no comparison
- * takes for a figure, but based[i] is what to test. Refused with 1 to 17.
+ * takes for a figure, but based[i] is what to test. Refused where the log is.
  */
 uint32_t tl_module_figures(const uint8_t *log, size_t log_len, size_t module, double figures[6], uint8_t based[4], uint64_t refusal[3]);
 
-/* The figures of the tool, from its summed quantities and not from its modules' figures. Refused with 1 to 17. */
+/* The figures of the tool, from its summed quantities and not from its modules' figures. Refused where the log is. */
 uint32_t tl_tool_figures(const uint8_t *log, size_t log_len, double figures[6], uint8_t based[4], uint64_t refusal[3]);
 
 #ifdef __cplusplus

@@ -337,7 +337,15 @@ fn credit_listed(
     let n = h.units;
     for i in 0..n {
         let verdict = credit_unit(
-            log, h, i, entries, links, last, &mut least, actual, effective,
+            log,
+            h,
+            i,
+            entries,
+            links,
+            last,
+            &mut least,
+            actual,
+            effective,
         );
         if let Verdict::Refused(_) = verdict {
             return verdict;
