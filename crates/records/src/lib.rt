@@ -123,13 +123,21 @@ pub fn standard_within(log: &[u8], h: Header, i: usize) -> Standard
     standard_in(first, second)
 }
 
+// The unit record that begins at a byte, where all of it is in the log.
+pub fn unit_from(log: &[u8], byte: usize) -> UnitRecord
+    requires { ⌜ Covers (now log) (byte + 11) ⌝ }
+    ensures { λ r. ⌜ r ≡ unitFrom (now (log .entry)) (8 * byte) ⌝ }
+{
+    let at = place(byte);
+    let first = bits::read_word(log, 8 * at) / 0x2000;
+    let second = bits::read_word(log, 8 * (at + 3));
+    unit_in(first, second)
+}
+
 // Unit record i of a log with this header, where all of it is in the log.
 pub fn unit_within(log: &[u8], h: Header, i: usize) -> UnitRecord
     requires { ⌜ Covers (now log) (10 + 6 * h .states + 9 * h .standards + 11 * i + 11) ⌝ }
     ensures { λ r. ⌜ r ≡ unitAt (now (log .entry)) h i ⌝ }
 {
-    let at = place(10 + 6 * h.states + 9 * h.standards + 11 * i);
-    let first = bits::read_word(log, 8 * at) / 0x2000;
-    let second = bits::read_word(log, 8 * (at + 3));
-    unit_in(first, second)
+    unit_from(log, 10 + 6 * h.states + 9 * h.standards + 11 * i)
 }

@@ -3,12 +3,12 @@
 use mathlib.Core.Path.{_≡_, refl, sym, _∙_}
 use mathlib.Core.Bool.{Bool, true, false, _&&_, _||_}
 use mathlib.Core.List.{List, [], _∷_, _++_}
-use Prim.Native.Nat.{ℕ, suc, _+_, _*_, _^_, _<_, zero-le}
+use Prim.Native.Nat.{ℕ, suc, _+_, _*_, _^_, _<_}
 use native.Mathlib.Nat.{mul-le-mul-right}
 use native.Mathlib.Decide.{ℕ-discrete, decLt}
 use native.Mathlib.Omega.{arith}
-use lib.Dec.{leb, ltb, eqb}
-use borrow.Author.Tests.{eq-eqb, ne-eqb, lt-ltb, le-ltb, le-leb, lt-leb}
+use lib.Dec.{ltb, eqb}
+use borrow.Author.Tests.{eq-eqb, ne-eqb, lt-ltb, le-ltb}
 use Rattle.records.specs.declared.StateRecord.{StateRecord}
 use Rattle.records.specs.declared.Standard.{Standard}
 use Rattle.records.specs.declared.UnitRecord.{UnitRecord}
@@ -28,6 +28,10 @@ below-one a b = go (ltb a b) (eqb a b)
     go false true = refl
     go false false = refl
 
+-- two numbers, and the same two with n more
+raised : (n x y s t : ℕ) → s ≡ n + x → t ≡ n + y → ltb x y ≡ ltb s t
+raised n x y s t d e = elim (decLt x y) [ yes h ↦ lt-ltb x y h ∙ sym (lt-ltb s t (omega arith)) | no h ↦ le-ltb x y (omega arith) ∙ sym (le-ltb s t (omega arith)) ]
+
 -- a number ahead of two keys that are compared as x and y, both below w
 below-more : (w a b x y : ℕ) (j k : List ℕ) → x < w → y < w → isBelow j k ≡ ltb x y → isBelow (a ∷ j) (b ∷ k) ≡ ltb (a * w + x) (b * w + y)
 unfolding isBelow
@@ -35,46 +39,40 @@ below-more w a b x y j k p q e =
     elim (decLt a b) [
       | yes l ↦ rw (lt-ltb a b l) (sym (lt-ltb (a * w + x) (b * w + y) (omega (arith, mul-le-mul-right {m = suc a} {n = b} w l))))
       | no l ↦ elim (ℕ-discrete a b) [
-        | yes o ↦ rw (le-ltb a b (omega arith), eq-eqb a b o, e, o) (level (b * w) (decLt x y))
+        | yes o ↦ rw (le-ltb a b (omega arith), eq-eqb a b o, e, o) (raised (b * w) x y (b * w + x) (b * w + y) refl refl)
         | no o ↦ rw (le-ltb a b (omega arith), ne-eqb a b o) (sym (le-ltb (a * w + x) (b * w + y) (omega (arith, mul-le-mul-right {m = suc b} {n = a} w (omega (arith, l, o))))))
       ]
     ]
-  where
-    level : (n : ℕ) → Dec (x < y) → ltb x y ≡ ltb (n + x) (n + y)
-    level n (yes h) = lt-ltb x y h ∙ sym (lt-ltb (n + x) (n + y) (omega arith))
-    level n (no h) = le-ltb x y (omega arith) ∙ sym (le-ltb (n + x) (n + y) (omega arith))
 
 pub states-below : (b r : StateRecord) → StateFits b → StateFits r → isBelow (stateKey b) (stateKey r) ≡ ltb (stateNumber b) (stateNumber r)
-states-below b r f g = below-more 64 (b .time) (r .time) (b .«module») (r .«module») _ _ (f .0) (g .0) (below-one (b .«module») (r .«module»))
+states-below b r f g =
+    below-more 64 (b .time) (r .time) (b .«module») (r .«module») _ _ (f .0) (g .0) (below-one (b .«module») (r .«module»))
+    ∙ raised 64 (b .time * 64 + b .«module») (r .time * 64 + r .«module») (stateNumber b) (stateNumber r) (omega arith) (omega arith)
 
 pub standards-below : (b s : Standard) → StandardFits b → StandardFits s → isBelow (standardKey b) (standardKey s) ≡ ltb (standardNumber b) (standardNumber s)
-standards-below b s f g = below-more (2 ^ 35) (b .recipe) (s .recipe) (b .start) (s .start) _ _ (f .1) (g .1) (below-one (b .start) (s .start))
+standards-below b s f g =
+    below-more (2 ^ 35) (b .recipe) (s .recipe) (b .start) (s .start) _ _ (f .1) (g .1) (below-one (b .start) (s .start))
+    ∙ raised (2 ^ 35) (b .recipe * 2 ^ 35 + b .start) (s .recipe * 2 ^ 35 + s .start) (standardNumber b) (standardNumber s) (omega arith) (omega arith)
 
 pub units-below : (b u : UnitRecord) → UnitFits b → UnitFits u → isBelow (unitKey b) (unitKey u) ≡ ltb (unitNumber b) (unitNumber u)
 units-below b u f g =
     let pair : (v : UnitRecord) → UnitFits v → v .«module» * 1024 + v .recipe < 65536 = λ v h. omega (arith, h .0, h .1) in
     below-more 65536 (b .time) (u .time) (b .«module» * 1024 + b .recipe) (u .«module» * 1024 + u .recipe) _ _ (pair b f) (pair u g)
     (below-more 1024 (b .«module») (u .«module») (b .recipe) (u .recipe) _ _ (f .1) (g .1) (below-one (b .recipe) (u .recipe)))
-    ∙ rw (number b, number u)
-  where
-    number : (v : UnitRecord) → v .time * 65536 + (v .«module» * 1024 + v .recipe) ≡ unitNumber v
-    number v = omega arith
+    ∙ raised 65536 (b .time * 65536 + (b .«module» * 1024 + b .recipe)) (u .time * 65536 + (u .«module» * 1024 + u .recipe)) (unitNumber b) (unitNumber u) (omega arith) (omega arith)
 
 -- ---- one record more
 
 module _ {A : Type 0} (key : A → List ℕ) (number : A → ℕ) (Fits : A → Type 0) where
   -- no record yet
-  pub sequenced-none : Sequenced key number Fits [] 0
+  pub sequenced-none : ((r : A) → 0 < number r) → Sequenced key number Fits [] 0
   unfolding isRisingAfter justBefore
-  sequenced-none = record { rises = refl; next = λ r f. sym (le-leb 0 (number r) zero-le) }
+  sequenced-none positive = record { rises = refl; next = λ r f. sym (lt-ltb 0 (number r) (positive r)) }
 
   module _ (as-numbers : (b r : A) → Fits b → Fits r → isBelow (key b) (key r) ≡ ltb (number b) (number r)) where
-    pub sequenced-more : (rs : List A) (least : ℕ) (r : A) → Sequenced key number Fits rs least → Fits r → isAfter key (justBefore rs) r ≡ true → Sequenced key number Fits (rs ++ (r ∷ [])) (number r + 1)
-    sequenced-more rs least r s f after =
+    pub sequenced-more : (rs : List A) (before : ℕ) (r : A) → Sequenced key number Fits rs before → Fits r → isAfter key (justBefore rs) r ≡ true → Sequenced key number Fits (rs ++ (r ∷ [])) (number r)
+    sequenced-more rs before r s f after =
         record {
           rises = rising-more key rs r ∙ both-true (isRising key rs) (isAfter key (justBefore rs) r) (s .rises) after;
-          next = λ q g. rw (last-more rs r) (as-numbers r q f g ∙ by-one (number r) (number q));
+          next = λ q g. rw (last-more rs r) (as-numbers r q f g);
         }
-      where
-        by-one : (a b : ℕ) → ltb a b ≡ leb (a + 1) b
-        by-one a b = elim (decLt a b) [ yes h ↦ lt-ltb a b h ∙ sym (le-leb (a + 1) b (omega arith)) | no h ↦ le-ltb a b (omega arith) ∙ sym (lt-leb (a + 1) b (omega arith)) ]

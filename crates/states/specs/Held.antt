@@ -80,9 +80,9 @@ pub record Held (rs : List StateRecord) (period : ℕ) (T P : List ℕ) (O : Lis
   pub sums : (m : ℕ) → m < 64 → Sums rs T m (getD P m 0 / 8 - 1)
 
 -- record i's answer v, and what is held where it passes
-pub record Stepped (at : ℕ → StateRecord) (period modules i : ℕ) (v : Verdict) (least : ℕ) (T P : List ℕ) (O : List Bool) : Type 0 where
+pub record Stepped (at : ℕ → StateRecord) (period modules i : ℕ) (v : Verdict) (before : ℕ) (T P : List ℕ) (O : List Bool) : Type 0 where
   pub answer : v ≡ stateGround period modules (upTo at i) i (at i)
-  pub sequenced : v ≡ Accepted → StatesSequenced (upTo at (i + 1)) least
+  pub sequenced : v ≡ Accepted → StatesSequenced (upTo at (i + 1)) before
   pub held : v ≡ Accepted → Held (upTo at (i + 1)) period T P O
 
 -- the answer v to n records, and what is held where all pass

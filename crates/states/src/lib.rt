@@ -121,18 +121,19 @@ fn refused(number: usize, i: usize) -> Verdict
     })
 }
 
-// A record's time and module in one number, by which records ascend.
+// A record's time and module in one number above 0, by which records ascend.
 fn number_of(r: StateRecord) -> u64
     requires { ⌜ StateFits r ⌝ }
     ensures { λ n. ⌜ n ≡ stateNumber r ⌝ }
 {
-    r.time * 64 + r.module as u64
+    (r.time + 1) * 64 + r.module as u64
 }
 
-// The first ground that record i meets. `least` is the least number that it may have, after records that rise: one above it is later than its module's last.
-fn test(r: StateRecord, i: usize, h: Header, least: u64) -> Verdict
+// The first ground that record i meets. `before` is the number of the record before it, and 0 where there is none. Those before rise: so a record above them is
+// later than its own module's last.
+fn test(r: StateRecord, i: usize, h: Header, before: u64) -> Verdict
     requires { ⌜ StateFits r ⌝ }
-    ensures { λ v. ⌜ ((earlier : List StateRecord) → StatesSequenced earlier least → v ≡ stateGround (h .period) (h .modules) earlier i r) ⌝ }
+    ensures { λ v. ⌜ ((earlier : List StateRecord) → StatesSequenced earlier before → v ≡ stateGround (h .period) (h .modules) earlier i r) ⌝ }
 {
     let period = h.period;
     let modules = h.modules;
@@ -151,7 +152,7 @@ fn test(r: StateRecord, i: usize, h: Header, least: u64) -> Verdict
     if period <= time {
         return refused(9, i);
     }
-    if number_of(r) < least {
+    if number_of(r) <= before {
         return refused(10, i);
     }
     Verdict::Accepted
@@ -159,29 +160,29 @@ fn test(r: StateRecord, i: usize, h: Header, least: u64) -> Verdict
 
 // Tests record i. Where it passes, its module's open stretch ends and the next begins. Of each module `latest` has, in one word, eight times the least time
 // that its next record may have, which is 0 where it has no record yet, and the table's entry for the code of its latest: the state that it is in since.
-// `least` is the least number that the next record of any module may have.
+// `before` is the number of the record before, and 0 where there is none.
 fn tally_record(
     table: &[u8; 24],
     log: &[u8],
     h: Header,
     i: usize,
-    least: &mut u64,
+    before: &mut u64,
     totals: &mut [u64; 384],
     latest: &mut [u64; 64],
     opened: &mut [bool; 64],
 ) -> Verdict
     requires { ⌜ now table ≡ states ⌝ }
     requires { ⌜ Covers (now log) (10 + 6 * i + 6) ⌝ }
-    requires { ⌜ StatesSequenced (upTo (stateAt (now log)) i) (now least) ⌝ }
+    requires { ⌜ StatesSequenced (upTo (stateAt (now log)) i) (now before) ⌝ }
     requires { ⌜ Held (upTo (stateAt (now log)) i) (h .period) (now totals) (now latest) (now opened) ⌝ }
-    ensures { λ r. ⌜ Stepped (stateAt (now (log .entry))) (h .period) (h .modules) i r (now (least .exit)) (now (totals .exit)) (now (latest .exit)) (now (opened .exit)) ⌝ }
+    ensures { λ r. ⌜ Stepped (stateAt (now (log .entry))) (h .period) (h .modules) i r (now (before .exit)) (now (totals .exit)) (now (latest .exit)) (now (opened .exit)) ⌝ }
 {
     let r = records::state_within(log, i);
     let m = r.module;
     let t = r.time;
     let word = latest[m];
     let own = word / 8;
-    let v = test(r, i, h, *least);
+    let v = test(r, i, h, *before);
     if let Verdict::Refused(f) = v {
         return Verdict::Refused(f);
     }
@@ -191,7 +192,7 @@ fn tally_record(
         add_stretch(totals, m, (word % 8) as usize, t - (own - 1));
     }
     latest[m] = (t + 1) * 8 + state_of(table, r.code) as u64;
-    *least = number_of(r) + 1;
+    *before = number_of(r);
     Verdict::Accepted
 }
 
@@ -210,9 +211,9 @@ fn tally_records(
     ensures { λ r. ⌜ Scanned (stateAt (now (log .entry))) (h .period) (h .modules) (h .states) r (now (totals .exit)) (now (latest .exit)) (now (opened .exit)) ⌝ }
 {
     let states = h.states;
-    let mut least = 0;
+    let mut before = 0;
     for i in 0..states {
-        let v = tally_record(table, log, h, i, &mut least, totals, latest, opened);
+        let v = tally_record(table, log, h, i, &mut before, totals, latest, opened);
         if let Verdict::Refused(f) = v {
             return Verdict::Refused(f);
         }

@@ -10,7 +10,7 @@ use native.Mathlib.Decide.{ℕ-discrete}
 use native.Mathlib.Omega.{arith}
 use lib.ListN.{length, getD, set, replicate, length-set, length-replicate, getD-replicate}
 use lib.Seq.{getD-set-same, getD-set-other}
-use borrow.Author.Tests.{eq-eqb, ne-eqb, le-leb, lt-leb}
+use borrow.Author.Tests.{eq-eqb, ne-eqb, le-ltb, lt-ltb}
 use Rattle.records.specs.declared.Standard.{Standard}
 use Rattle.records.specs.declared.UnitRecord.{UnitRecord}
 use Rattle.records.specs.Log.{upTo}
@@ -77,8 +77,8 @@ own-then period modules ss us i u = sym (simp then-assoc)
 
 module _ (period modules : ℕ) (ss : List Standard) (at : ℕ → UnitRecord) (i : ℕ) (u : UnitRecord) (eu : u ≡ at i) (v : Verdict) (ev : v ≡ ownGrounds period modules i u) where
   -- refused for itself
-  pub unit-own : (x : Refusal) → v ≡ Refused x → (least : ℕ) (A E : List ℕ) → OneUnit period modules ss at i v least A E
-  unit-own x e least A E =
+  pub unit-own : (x : Refusal) → v ≡ Refused x → (before : ℕ) (A E : List ℕ) → OneUnit period modules ss at i v before A E
+  unit-own x e before A E =
       record {
         answer = e ∙ sym (rw (← eu) (own-then period modules ss (upTo at i) i u ∙ ap (λ (w : Verdict). w then last-tests ss (upTo at i) i u) (sym ev ∙ e)));
         sequenced = λ f. absurd (refused-not (sym e ∙ f));
@@ -89,25 +89,25 @@ module _ (period modules : ℕ) (ss : List Standard) (at : ℕ → UnitRecord) (
   decided e = rw (← eu) (own-then period modules ss (upTo at i) i u ∙ ap (λ (w : Verdict). w then last-tests ss (upTo at i) i u) (sym ev ∙ e))
 
   -- refused for 15 or 19
-  unit-refused : (x : Refusal) (w : Verdict) → w ≡ Refused x → v ≡ Accepted → last-tests ss (upTo at i) i u ≡ Refused x → (least : ℕ) (A E : List ℕ) → OneUnit period modules ss at i w least A E
-  unit-refused x w ew e h least A E = record { answer = ew ∙ sym (decided e ∙ h); sequenced = λ f. absurd (refused-not (sym ew ∙ f)); summed = λ f. absurd (refused-not (sym ew ∙ f)) }
+  unit-refused : (x : Refusal) (w : Verdict) → w ≡ Refused x → v ≡ Accepted → last-tests ss (upTo at i) i u ≡ Refused x → (before : ℕ) (A E : List ℕ) → OneUnit period modules ss at i w before A E
+  unit-refused x w ew e h before A E = record { answer = ew ∙ sym (decided e ∙ h); sequenced = λ f. absurd (refused-not (sym ew ∙ f)); summed = λ f. absurd (refused-not (sym ew ∙ f)) }
 
-  pub unit-none : v ≡ Accepted → inForce ss (u .recipe) (u .time) ≡ none → (w : Verdict) → w ≡ Refused (record { number = 15; list = 3; place = i }) → (least : ℕ) (A E : List ℕ) → OneUnit period modules ss at i w least A E
+  pub unit-none : v ≡ Accepted → inForce ss (u .recipe) (u .time) ≡ none → (w : Verdict) → w ≡ Refused (record { number = 15; list = 3; place = i }) → (before : ℕ) (A E : List ℕ) → OneUnit period modules ss at i w before A E
   unit-none e h w ew = unit-refused _ w ew e (rw h)
 
-  module _ (e : v ≡ Accepted) (s : Standard) (h : inForce ss (u .recipe) (u .time) ≡ some s) (least : ℕ) (q : UnitsSequenced (upTo at i) least) (fits : UnitFits u) where
-    pub unit-unsorted : unitNumber u < least → (w : Verdict) → w ≡ Refused (record { number = 19; list = 3; place = i }) → (least′ : ℕ) (A E : List ℕ) → OneUnit period modules ss at i w least′ A E
-    unit-unsorted l w ew = unit-refused _ w ew e (rw (h, q .next u fits, lt-leb least (unitNumber u) l))
+  module _ (e : v ≡ Accepted) (s : Standard) (h : inForce ss (u .recipe) (u .time) ≡ some s) (before : ℕ) (q : UnitsSequenced (upTo at i) before) (fits : UnitFits u) where
+    pub unit-unsorted : unitNumber u ≤ before → (w : Verdict) → w ≡ Refused (record { number = 19; list = 3; place = i }) → (before′ : ℕ) (A E : List ℕ) → OneUnit period modules ss at i w before′ A E
+    unit-unsorted l w ew = unit-refused _ w ew e (rw (h, q .next u fits, le-ltb before (unitNumber u) l))
 
-    pub unit-credited : least ≤ unitNumber u → u .actual < 65536 → u .effective < 65536 → s .theoretical < 134217728
+    pub unit-credited : before < unitNumber u → u .actual < 65536 → u .effective < 65536 → s .theoretical < 134217728
         → (A E : List ℕ) → SumsSoFar ss (upTo at i) i A E
-        → (least′ : ℕ) (A′ E′ : List ℕ) → least′ ≡ unitNumber u + 1 → A′ ≡ set A (u .«module») (getD A (u .«module») 0 + u .actual * s .theoretical) → E′ ≡ set E (u .«module») (getD E (u .«module») 0 + u .effective * s .theoretical)
-        → OneUnit period modules ss at i Accepted least′ A′ E′
-    unit-credited l few few′ short A E sums least′ A′ E′ el ea ee =
-        let after = q .next u fits ∙ le-leb least (unitNumber u) l in
+        → (before′ : ℕ) (A′ E′ : List ℕ) → before′ ≡ unitNumber u → A′ ≡ set A (u .«module») (getD A (u .«module») 0 + u .actual * s .theoretical) → E′ ≡ set E (u .«module») (getD E (u .«module») 0 + u .effective * s .theoretical)
+        → OneUnit period modules ss at i Accepted before′ A′ E′
+    unit-credited l few few′ short A E sums before′ A′ E′ el ea ee =
+        let after = q .next u fits ∙ lt-ltb before (unitNumber u) l in
         record {
           answer = sym (decided e ∙ rw (h, after));
-          sequenced = λ f. rw (el, up-to-more at i, ← eu) (sequenced-more unitKey unitNumber UnitFits units-below (upTo at i) least u q fits after);
+          sequenced = λ f. rw (el, up-to-more at i, ← eu) (sequenced-more unitKey unitNumber UnitFits units-below (upTo at i) before u q fits after);
           summed = λ f. rw (ea, ee, up-to-more at i, ← eu) more;
         }
       where
@@ -132,34 +132,34 @@ abbrev tests : ℕ → ℕ → List Standard → (ℕ → UnitRecord) → ℕ �
 tests period modules ss at i = unitGround period modules ss (upTo at i) i (at i)
 
 -- the first i were tested, passed and credited
-pub record CreditedTo (period modules : ℕ) (ss : List Standard) (at : ℕ → UnitRecord) (n i least : ℕ) (A E : List ℕ) : Type 0 where
+pub record CreditedTo (period modules : ℕ) (ss : List Standard) (at : ℕ → UnitRecord) (n i before : ℕ) (A E : List ℕ) : Type 0 where
   pub within : i ≤ n
   pub fine : firstOf (tests period modules ss at) i ≡ Accepted
-  pub sequenced : UnitsSequenced (upTo at i) least
+  pub sequenced : UnitsSequenced (upTo at i) before
   pub summed : SumsSoFar ss (upTo at i) i A E
 
 module _ (period modules : ℕ) (ss : List Standard) (at : ℕ → UnitRecord) (n : ℕ) where
   pub credited-none : (A E : List ℕ) → SumsSoFar ss (upTo at 0) 0 A E → CreditedTo period modules ss at n 0 0 A E
   unfolding upTo
-  credited-none A E s = record { within = omega arith; fine = first-none (tests period modules ss at); sequenced = sequenced-none unitKey unitNumber UnitFits; summed = s }
+  credited-none A E s = record { within = omega arith; fine = first-none (tests period modules ss at); sequenced = sequenced-none unitKey unitNumber UnitFits (λ u. omega arith); summed = s }
 
-  pub credited-step : (i least : ℕ) (A E : List ℕ) → i < n → CreditedTo period modules ss at n i least A E → (v : Verdict) (least′ : ℕ) (A′ E′ : List ℕ) → OneUnit period modules ss at i v least′ A′ E′ → v ≡ Accepted
-      → CreditedTo period modules ss at n (i + 1) least′ A′ E′
-  credited-step i least A E h c v least′ A′ E′ u e =
+  pub credited-step : (i before : ℕ) (A E : List ℕ) → i < n → CreditedTo period modules ss at n i before A E → (v : Verdict) (before′ : ℕ) (A′ E′ : List ℕ) → OneUnit period modules ss at i v before′ A′ E′ → v ≡ Accepted
+      → CreditedTo period modules ss at n (i + 1) before′ A′ E′
+  credited-step i before A E h c v before′ A′ E′ u e =
       record { within = omega arith; fine = first-more (tests period modules ss at) i (c .fine) (sym (u .answer) ∙ e); sequenced = u .sequenced e; summed = u .summed e }
 
-  pub credited-stop : (i least : ℕ) (A E : List ℕ) → i < n → CreditedTo period modules ss at n i least A E → (v : Verdict) (least′ : ℕ) (A′ E′ : List ℕ) → OneUnit period modules ss at i v least′ A′ E′ → (x : Refusal) → v ≡ Refused x
+  pub credited-stop : (i before : ℕ) (A E : List ℕ) → i < n → CreditedTo period modules ss at n i before A E → (v : Verdict) (before′ : ℕ) (A′ E′ : List ℕ) → OneUnit period modules ss at i v before′ A′ E′ → (x : Refusal) → v ≡ Refused x
       → AllUnits period modules ss (upTo at n) v A′ E′
   unfolding unitGrounds
-  credited-stop i least A E h c v least′ A′ E′ u x e =
+  credited-stop i before A E h c v before′ A′ E′ u x e =
       record {
         answer = e ∙ sym (turn-range (unitGround period modules ss) at n ∙ first-stop (tests period modules ss at) n i x h (c .fine) (sym (u .answer) ∙ e));
         credited = λ f. absurd (refused-not (sym e ∙ f));
       }
 
-  pub credited-all : (i least : ℕ) (A E : List ℕ) → n ≤ i → CreditedTo period modules ss at n i least A E → AllUnits period modules ss (upTo at n) Accepted A E
+  pub credited-all : (i before : ℕ) (A E : List ℕ) → n ≤ i → CreditedTo period modules ss at n i before A E → AllUnits period modules ss (upTo at n) Accepted A E
   unfolding unitGrounds
-  credited-all i least A E h c =
+  credited-all i before A E h c =
       let q : i ≡ n = omega (arith, c .within) in
       record { answer = sym (turn-range (unitGround period modules ss) at n ∙ rw q at (c .fine)); credited = λ e. rw q at (c .summed .credited) }
 

@@ -11,7 +11,7 @@ use native.Mathlib.Omega.{arith}
 use lib.ListN.{length, getD, set, replicate, length-set, length-replicate, getD-replicate}
 use lib.Seq.{getD-set-same, getD-set-other}
 use lib.Dec.{leb, eqb}
-use borrow.Author.Tests.{le-leb, lt-leb, eq-eqb, ne-eqb, eqb-false}
+use borrow.Author.Tests.{le-leb, lt-leb, le-ltb, lt-ltb, eq-eqb, ne-eqb, eqb-false}
 use Rattle.records.specs.declared.Standard.{Standard}
 use Rattle.records.specs.declared.Header.{Header}
 use Rattle.records.specs.Log.{upTo, standardAt}
@@ -130,7 +130,7 @@ module _ (at : ℕ → Standard) (s : Standard) (fit : StandardFits s) where
         | no q ↦ sym (among-more n ∙ or-true (eqb (s .recipe) (at n .recipe) && eqb (s .start) (at n .start)) (isAmong s (upTo at n)) (sym (among-found n i (omega (arith, q)) fits e)))
       ]
 
-module _ (period : ℕ) (earlier : List Standard) (i least : ℕ) (s : Standard) (fit : StandardFits s) (q : StandardsSequenced earlier least) where
+module _ (period : ℕ) (earlier : List Standard) (i before : ℕ) (s : Standard) (fit : StandardFits s) (q : StandardsSequenced earlier before) where
   pub test-outside : period ≤ s .start → Refused (record { number = 9; list = 2; place = i }) ≡ standardGround period earlier i s
   unfolding standardGround
   test-outside h = rw (le-leb period (s .start) h)
@@ -145,14 +145,14 @@ module _ (period : ℕ) (earlier : List Standard) (i least : ℕ) (s : Standard)
       unfolding standardGround
       test-twice a = rw (lt-leb period (s .start) inside, ne-eqb (s .theoretical) 0 timed, ← a)
 
-      pub test-unsorted : false ≡ isAmong s earlier → standardNumber s < least → Refused (record { number = 19; list = 2; place = i }) ≡ standardGround period earlier i s
+      pub test-unsorted : false ≡ isAmong s earlier → standardNumber s ≤ before → Refused (record { number = 19; list = 2; place = i }) ≡ standardGround period earlier i s
       unfolding standardGround
-      test-unsorted a h = rw (lt-leb period (s .start) inside, ne-eqb (s .theoretical) 0 timed, ← a, q .next s fit, lt-leb least (standardNumber s) h)
+      test-unsorted a h = rw (lt-leb period (s .start) inside, ne-eqb (s .theoretical) 0 timed, ← a, q .next s fit, le-ltb before (standardNumber s) h)
 
-      pub test-passed : least ≤ standardNumber s → Accepted ≡ standardGround period earlier i s
+      pub test-passed : before < standardNumber s → Accepted ≡ standardGround period earlier i s
       unfolding standardGround
       test-passed h =
-          let after = q .next s fit ∙ le-leb least (standardNumber s) h in
+          let after = q .next s fit ∙ lt-ltb before (standardNumber s) h in
           rw (lt-leb period (s .start) inside, ne-eqb (s .theoretical) 0 timed, not-among earlier s (q .rises) after, after)
 
 -- ---- one standard listed
@@ -204,34 +204,34 @@ abbrev tests : ℕ → (ℕ → Standard) → ℕ → Verdict
 tests period at i = standardGround period (upTo at i) i (at i)
 
 -- the first i were tested, passed and listed
-pub record ListedTo (period : ℕ) (at : ℕ → Standard) (n i least : ℕ) (E B L : List ℕ) : Type 0 where
+pub record ListedTo (period : ℕ) (at : ℕ → Standard) (n i before : ℕ) (E B L : List ℕ) : Type 0 where
   pub within : i ≤ n
   pub fine : firstOf (tests period at) i ≡ Accepted
-  pub sequenced : StandardsSequenced (upTo at i) least
+  pub sequenced : StandardsSequenced (upTo at i) before
   pub listing : Listing at i E B L
 
 module _ (period : ℕ) (at : ℕ → Standard) (n : ℕ) where
   pub listed-none : (E B L : List ℕ) → Listing at 0 E B L → ListedTo period at n 0 0 E B L
   unfolding upTo
   listed-none E B L l =
-      record { within = omega arith; fine = first-none (tests period at); sequenced = sequenced-none standardKey standardNumber StandardFits; listing = l }
+      record { within = omega arith; fine = first-none (tests period at); sequenced = sequenced-none standardKey standardNumber StandardFits (λ s. omega arith); listing = l }
 
-  pub listed-step : (i least : ℕ) (E B L : List ℕ) → i < n → ListedTo period at n i least E B L → (r : Verdict) (least′ : ℕ) (E′ B′ L′ : List ℕ) → Added period at i r least′ E′ B′ L′
-      → r ≡ Accepted → ListedTo period at n (i + 1) least′ E′ B′ L′
-  listed-step i least E B L h l r least′ E′ B′ L′ a e =
+  pub listed-step : (i before : ℕ) (E B L : List ℕ) → i < n → ListedTo period at n i before E B L → (r : Verdict) (before′ : ℕ) (E′ B′ L′ : List ℕ) → Added period at i r before′ E′ B′ L′
+      → r ≡ Accepted → ListedTo period at n (i + 1) before′ E′ B′ L′
+  listed-step i before E B L h l r before′ E′ B′ L′ a e =
       record { within = omega arith; fine = first-more (tests period at) i (l .fine) (sym (a .answer) ∙ e); sequenced = a .sequenced e; listing = a .listing e }
 
-  pub listed-stop : (i least : ℕ) (E B L : List ℕ) → i < n → ListedTo period at n i least E B L → (r : Verdict) (least′ : ℕ) (E′ B′ L′ : List ℕ) → Added period at i r least′ E′ B′ L′
+  pub listed-stop : (i before : ℕ) (E B L : List ℕ) → i < n → ListedTo period at n i before E B L → (r : Verdict) (before′ : ℕ) (E′ B′ L′ : List ℕ) → Added period at i r before′ E′ B′ L′
       → (x : Refusal) → r ≡ Refused x → AllListed period at n r E′ B′ L′
   unfolding standardGrounds
-  listed-stop i least E B L h l r least′ E′ B′ L′ a x e =
+  listed-stop i before E B L h l r before′ E′ B′ L′ a x e =
       record {
         answer = e ∙ sym (turn-range (standardGround period) at n ∙ first-stop (tests period at) n i x h (l .fine) (sym (a .answer) ∙ e));
         listing = λ f. absurd (refused-not (sym e ∙ f));
       }
 
-  pub listed-all : (i least : ℕ) (E B L : List ℕ) → n ≤ i → ListedTo period at n i least E B L → AllListed period at n Accepted E B L
+  pub listed-all : (i before : ℕ) (E B L : List ℕ) → n ≤ i → ListedTo period at n i before E B L → AllListed period at n Accepted E B L
   unfolding standardGrounds
-  listed-all i least E B L h l =
+  listed-all i before E B L h l =
       let q : i ≡ n = omega (arith, l .within) in
       record { answer = sym (turn-range (standardGround period) at n ∙ rw q at (l .fine)); listing = λ e. rw q at (l .listing) }

@@ -43,9 +43,9 @@ pub record SumsSoFar (ss : List Standard) (us : List UnitRecord) (i : ℕ) (A E 
   pub credited : Credited ss us A E
 
 -- unit record i tested, and credited where it passes
-pub record OneUnit (period modules : ℕ) (ss : List Standard) (at : ℕ → UnitRecord) (i : ℕ) (r : Verdict) (least : ℕ) (A E : List ℕ) : Type 0 where
+pub record OneUnit (period modules : ℕ) (ss : List Standard) (at : ℕ → UnitRecord) (i : ℕ) (r : Verdict) (before : ℕ) (A E : List ℕ) : Type 0 where
   pub answer : r ≡ unitGround period modules ss (upTo at i) i (at i)
-  pub sequenced : r ≡ Accepted → UnitsSequenced (upTo at (i + 1)) least
+  pub sequenced : r ≡ Accepted → UnitsSequenced (upTo at (i + 1)) before
   pub summed : r ≡ Accepted → SumsSoFar ss (upTo at (i + 1)) (i + 1) A E
 
 -- all unit records tested and credited

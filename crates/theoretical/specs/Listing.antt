@@ -25,9 +25,9 @@ pub record Listing (at : ℕ → Standard) (n : ℕ) (E B L : List ℕ) : Type 0
   pub lasts : (recipe : ℕ) → recipe < 1024 → getD L recipe 0 ≡ lastOf at recipe n
 
 -- standard i tested, and listed where it passes
-pub record Added (period : ℕ) (at : ℕ → Standard) (i : ℕ) (r : Verdict) (least : ℕ) (E B L : List ℕ) : Type 0 where
+pub record Added (period : ℕ) (at : ℕ → Standard) (i : ℕ) (r : Verdict) (before : ℕ) (E B L : List ℕ) : Type 0 where
   pub answer : r ≡ standardGround period (upTo at i) i (at i)
-  pub sequenced : r ≡ Accepted → StandardsSequenced (upTo at (i + 1)) least
+  pub sequenced : r ≡ Accepted → StandardsSequenced (upTo at (i + 1)) before
   pub listing : r ≡ Accepted → Listing at (i + 1) E B L
 
 -- all n standards tested and listed

@@ -129,12 +129,12 @@ fn look_up(
     })
 }
 
-// A standard's recipe and start in one number, by which standards ascend.
+// A standard's recipe and start in one number above 0, by which standards ascend.
 fn standard_number(s: Standard) -> u64
     requires { ⌜ StandardFits s ⌝ }
     ensures { λ n. ⌜ n ≡ standardNumber s ⌝ }
 {
-    s.recipe as u64 * 0x8_0000_0000 + s.start
+    (s.recipe as u64 + 1) * 0x8_0000_0000 + s.start
 }
 
 // Whether one of the first n standards has this recipe and this start.
@@ -153,10 +153,10 @@ fn is_listed(log: &[u8], h: Header, n: usize, s: Standard) -> bool
     false
 }
 
-// Standard i tested for 9, 12, 13 and 19. `least` is the least number that it may have after those before it, which rise: at or above it no search is needed,
-// and below it one search tells 13 from 19.
-fn test_standard(log: &[u8], h: Header, i: usize, least: u64, s: Standard) -> Verdict
-    requires { ⌜ (s ≡ standardAt (now log) h i) × StandardsSequenced (upTo (standardAt (now log) h) i) least ⌝ }
+// Standard i tested for 9, 12, 13 and 19. `before` is the number of the standard before it, and 0 where there is none. Those before rise: so one above them is none of
+// them, and else one search tells 13 from 19.
+fn test_standard(log: &[u8], h: Header, i: usize, before: u64, s: Standard) -> Verdict
+    requires { ⌜ (s ≡ standardAt (now log) h i) × StandardsSequenced (upTo (standardAt (now log) h) i) before ⌝ }
     requires { ⌜ Covers (now log) (10 + 6 * h .states + 9 * i) ⌝ }
     ensures { λ r. ⌜ r ≡ standardGround (h .period) (upTo (standardAt (now (log .entry)) h) i) i s ⌝ }
 {
@@ -166,7 +166,7 @@ fn test_standard(log: &[u8], h: Header, i: usize, least: u64, s: Standard) -> Ve
     if s.theoretical == 0 {
         return refused(12, 2, i);
     }
-    if standard_number(s) < least {
+    if standard_number(s) <= before {
         if is_listed(log, h, i, s) {
             return refused(13, 2, i);
         }
@@ -200,22 +200,22 @@ fn list_standard(
     log: &[u8],
     h: Header,
     i: usize,
-    least: &mut u64,
+    before: &mut u64,
     entries: &mut [u64; 512],
     links: &mut [usize; 512],
     last: &mut [usize; 1024],
 ) -> Verdict
-    requires { ⌜ StandardsSequenced (upTo (standardAt (now log) h) i) (now least) ⌝ }
+    requires { ⌜ StandardsSequenced (upTo (standardAt (now log) h) i) (now before) ⌝ }
     requires { ⌜ Listing (standardAt (now log) h) i (now entries) (now links) (now last) ⌝ }
     requires { ⌜ (i < 512) × Covers (now log) (10 + 6 * h .states + 9 * i + 9) ⌝ }
-    ensures { λ r. ⌜ Added (h .period) (standardAt (now (log .entry)) h) i r (now (least .exit)) (now (entries .exit)) (now (links .exit)) (now (last .exit)) ⌝ }
+    ensures { λ r. ⌜ Added (h .period) (standardAt (now (log .entry)) h) i r (now (before .exit)) (now (entries .exit)) (now (links .exit)) (now (last .exit)) ⌝ }
 {
     let s = records::standard_within(log, h, i);
-    let verdict = test_standard(log, h, i, *least, s);
+    let verdict = test_standard(log, h, i, *before, s);
     if let Verdict::Refused(_) = verdict {
         return verdict;
     }
-    *least = standard_number(s) + 1;
+    *before = standard_number(s);
     store_standard(log, h, i, entries, links, last, s);
     Verdict::Accepted
 }
@@ -232,10 +232,10 @@ fn list_standards(
     requires { ⌜ Listing (standardAt (now log) h) 0 (now entries) (now links) (now last) ⌝ }
     ensures { λ r. ⌜ AllListed (h .period) (standardAt (now (log .entry)) h) (h .standards) r (now (entries .exit)) (now (links .exit)) (now (last .exit)) ⌝ }
 {
-    let mut least = 0;
+    let mut before = 0;
     let n = h.standards;
     for i in 0..n {
-        let verdict = list_standard(log, h, i, &mut least, entries, links, last);
+        let verdict = list_standard(log, h, i, &mut before, entries, links, last);
         if let Verdict::Refused(_) = verdict {
             return verdict;
         }
@@ -262,12 +262,12 @@ fn test_unit(h: Header, i: usize, u: UnitRecord) -> Verdict
     Verdict::Accepted
 }
 
-// A unit record's time, module and recipe in one number, by which unit records ascend.
+// A unit record's time, module and recipe in one number above 0, by which unit records ascend.
 fn unit_number(u: UnitRecord) -> u64
     requires { ⌜ UnitFits u ⌝ }
     ensures { λ n. ⌜ n ≡ unitNumber u ⌝ }
 {
-    (u.time * 64 + u.module as u64) * 1024 + u.recipe as u64
+    ((u.time + 1) * 64 + u.module as u64) * 1024 + u.recipe as u64
 }
 
 // The sum of module m grows by the theoretical time for these units.
@@ -278,26 +278,28 @@ fn credit(sums: &mut [u64; 64], m: usize, units: u64, theoretical: u64)
     sums[m] = sums[m] + units * theoretical;
 }
 
-// Unit record i tested, and its units credited to its module where it passes. `least` is the least number that it may have after those before it.
+// Unit record i tested, and its units credited to its module where it passes. `byte` is where it begins, and `before` the number of the
+// record before it, 0 where there is none.
 fn credit_unit(
     log: &[u8],
     h: Header,
     i: usize,
+    byte: usize,
     entries: &[u64; 512],
     links: &[usize; 512],
     last: &[usize; 1024],
-    least: &mut u64,
+    before: &mut u64,
     actual: &mut [u64; 64],
     effective: &mut [u64; 64],
 ) -> Verdict
     requires { ⌜ Listing (standardAt (now log) h) (h .standards) (now entries) (now links) (now last) ⌝ }
     requires { ⌜ Proper (standardAt (now log) h) (h .standards) ⌝ }
-    requires { ⌜ UnitsSequenced (upTo (unitAt (now log) h) i) (now least) ⌝ }
+    requires { ⌜ UnitsSequenced (upTo (unitAt (now log) h) i) (now before) ⌝ }
     requires { ⌜ SumsSoFar (upTo (standardAt (now log) h) (h .standards)) (upTo (unitAt (now log) h) i) i (now actual) (now effective) ⌝ }
-    requires { ⌜ (i < 2000) × Covers (now log) (10 + 6 * h .states + 9 * h .standards + 11 * i + 11) ⌝ }
-    ensures { λ r. ⌜ OneUnit (h .period) (h .modules) (upTo (standardAt (now (log .entry)) h) (h .standards)) (unitAt (now (log .entry)) h) i r (now (least .exit)) (now (actual .exit)) (now (effective .exit)) ⌝ }
+    requires { ⌜ (i < 2000) × (byte ≡ 10 + 6 * h .states + 9 * h .standards + 11 * i) × Covers (now log) (byte + 11) ⌝ }
+    ensures { λ r. ⌜ OneUnit (h .period) (h .modules) (upTo (standardAt (now (log .entry)) h) (h .standards)) (unitAt (now (log .entry)) h) i r (now (before .exit)) (now (actual .exit)) (now (effective .exit)) ⌝ }
 {
-    let u = records::unit_within(log, h, i);
+    let u = records::unit_from(log, byte);
     let own = test_unit(h, i, u);
     if let Verdict::Refused(_) = own {
         return own;
@@ -307,10 +309,10 @@ fn credit_unit(
         return refused(15, 3, i);
     };
     let number = unit_number(u);
-    if number < *least {
+    if number <= *before {
         return refused(19, 3, i);
     }
-    *least = number + 1;
+    *before = number;
     let m = u.module;
     credit(actual, m, u.actual, s.theoretical);
     credit(effective, m, u.effective, s.theoretical);
@@ -333,23 +335,26 @@ fn credit_listed(
     requires { ⌜ (h .units ≤ 2000) × Covers (now log) (10 + 6 * h .states + 9 * h .standards + 11 * h .units) ⌝ }
     ensures { λ r. ⌜ AllUnits (h .period) (h .modules) (upTo (standardAt (now (log .entry)) h) (h .standards)) (upTo (unitAt (now (log .entry)) h) (h .units)) r (now (actual .exit)) (now (effective .exit)) ⌝ }
 {
-    let mut least = 0;
+    let mut before = 0;
+    let mut byte = 10 + 6 * h.states + 9 * h.standards;
     let n = h.units;
     for i in 0..n {
         let verdict = credit_unit(
             log,
             h,
             i,
+            byte,
             entries,
             links,
             last,
-            &mut least,
+            &mut before,
             actual,
             effective,
         );
         if let Verdict::Refused(_) = verdict {
             return verdict;
         }
+        byte += 11;
     }
     Verdict::Accepted
 }

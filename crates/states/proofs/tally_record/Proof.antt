@@ -125,5 +125,4 @@ tally-record-spec =
     (λ c. omega (arith, module-below (read (c .before .before))))
     (λ c. module-below (read (c .before .before)))
     (λ c κs. fits (read (c .before .before)))
-    (λ c. omega (arith, fits (read (c .before .before .before)), c .number-of .ensures))
     returns-2)

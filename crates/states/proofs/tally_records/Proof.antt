@@ -23,19 +23,19 @@ abbrev groundAt : ℕ → ℕ → (ℕ → StateRecord) → ℕ → Verdict
 groundAt period modules at i = stateGround period modules (upTo at i) i (at i)
 
 abbrev Inv-loop : tie.InvT-loop
-Inv-loop table log h totals₀ latest₀ opened₀ states least₀ i₀ totals latest opened least i =
+Inv-loop table log h totals₀ latest₀ opened₀ states before₀ i₀ totals latest opened before i =
     (i ≤ states)
     × (states ≡ h .states)
     × (firstOf (groundAt (h .period) (h .modules) (stateAt log)) i ≡ Accepted)
-    × StatesSequenced (upTo (stateAt log) i) least
+    × StatesSequenced (upTo (stateAt log) i) before
     × Held (upTo (stateAt log) i) (h .period) totals latest opened
 
 abbrev μ-loop : tie.MeasureT-loop
-μ-loop table log h totals₀ latest₀ opened₀ states least₀ i₀ totals latest opened least i = states - i
+μ-loop table log h totals₀ latest₀ opened₀ states before₀ i₀ totals latest opened before i = states - i
 
 loop-holds : tie.Need-loop-holds Inv-loop μ-loop
 unfolding upTo
-loop-holds c = (search needs, refl, first-none _, sequenced-none stateKey stateNumber StateFits, c .before .pre .1 .1)
+loop-holds c = (search needs, refl, first-none _, sequenced-none stateKey stateNumber StateFits (λ r. omega arith), c .before .pre .1 .1)
 
 tally-record-requires : tie.Need-tally-record-requires Inv-loop μ-loop
 tally-record-requires c κs =

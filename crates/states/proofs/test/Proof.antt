@@ -35,13 +35,13 @@ module _ (s : tie.Start) (earlier : List StateRecord) where
   abbrev from7 : Verdict
   from7 = ground 7 1 (s .args .i) (leb (s .args .h .modules) (s .args .r .«module»)) then from8
 
-  -- test 10 by the least number
-  below-least : StatesSequenced earlier (s .args .least) → stateNumber (s .args .r) < s .args .least → from10 ≡ ground 10 1 (s .args .i) true
-  below-least q h = rw (q .next (s .args .r) (s .pre), lt-leb (s .args .least) (stateNumber (s .args .r)) h)
+  -- test 10 by the number of the record before
+  not-above : StatesSequenced earlier (s .args .before) → stateNumber (s .args .r) ≤ s .args .before → from10 ≡ ground 10 1 (s .args .i) true
+  not-above q h = rw (q .next (s .args .r) (s .pre), le-ltb (s .args .before) (stateNumber (s .args .r)) h)
 
-  from-least : StatesSequenced earlier (s .args .least) → s .args .least ≤ stateNumber (s .args .r) → from10 ≡ Accepted
-  from-least q h =
-      let after = q .next (s .args .r) (s .pre) ∙ le-leb (s .args .least) (stateNumber (s .args .r)) h in
+  above : StatesSequenced earlier (s .args .before) → s .args .before < stateNumber (s .args .r) → from10 ≡ Accepted
+  above q h =
+      let after = q .next (s .args .r) (s .pre) ∙ lt-ltb (s .args .before) (stateNumber (s .args .r)) h in
       rw (after, later-than-own earlier (s .args .r) (q .rises) after)
 
 past6 : (c : tie.Else1) (earlier : List StateRecord) → from6 (c .before .before) earlier ≡ from7 (c .before .before) earlier
@@ -73,12 +73,12 @@ returns-4 c = λ earlier q. c .refused4 .ensures ∙ sym (past8 (c .before .befo
 returns-5 : tie.Need-returns-5
 returns-5 c = λ earlier q.
     let n = c .before .before in
-    c .refused5 .ensures ∙ sym (past9 (n .before) earlier ∙ below-least (n .before .before .before .before .before .before) earlier q (rw (← n .number-of .ensures) (c .before .if5 .taken)))
+    c .refused5 .ensures ∙ sym (past9 (n .before) earlier ∙ not-above (n .before .before .before .before .before .before) earlier q (rw (← n .number-of .ensures) (c .before .if5 .taken)))
 
 returns-6 : tie.Need-returns-6
 returns-6 c = λ earlier q.
     let n = c .before in
-    sym (past9 (n .before) earlier ∙ from-least (n .before .before .before .before .before .before) earlier q (rw (← n .number-of .ensures) (c .if5 .left)))
+    sym (past9 (n .before) earlier ∙ above (n .before .before .before .before .before .before) earlier q (rw (← n .number-of .ensures) (c .if5 .left)))
 
 pub test-spec : {M : Type 1} → statement M
 test-spec =

@@ -10,6 +10,7 @@ use Rattle.records.specs.declared.Header.{Header}
 use Rattle.records.specs.declared.Standard.{Standard}
 use Rattle.records.specs.declared.UnitRecord.{UnitRecord}
 use Rattle.records.specs.Log.{upTo, standardAt, unitAt}
+use Rattle.records.specs.Fields.{unitFrom}
 use Rattle.records.proofs.Widths.{standard-fits, unit-fits}
 use Rattle.rules.specs.Keys.{UnitFits}
 use Rattle.rules.specs.Theoretical.{inForce, Answers}
@@ -46,87 +47,90 @@ short s h n recipe time x e = go (inForce (upTo (standardAt s h) n) recipe time)
         let q : x ≡ standardAt s h (f .index) = (cc) ∙ f .same in
         rw q (standard-fits s (80 + 48 * h .states + 72 * f .index) .1 .1 .0)
 
+-- where unit record i begins
+reads : (c : tie.After-unit-from) → let a = c .before .before .args in c .unit-from .result ≡ unitAt (a .log .now) (a .h) (a .i)
+reads c = let s = c .before .before in c .unit-from .ensures ∙ ap (unitFrom (s .args .log .now)) (omega (arith, s .pre .1 .1 .1 .1 .1))
+
 returns : tie.Need-returns
 returns c =
     let a = c .before .before .before .before .before .args in
     let r = c .before .before in
-    unit-own (a .h .period) (a .h .modules) (upTo (standardAt (a .log .now) (a .h)) (a .h .standards)) (unitAt (a .log .now) (a .h)) (a .i) (r .before .unit-within .result) (r .before .unit-within .ensures)
-    (r .test-unit .result) (r .test-unit .ensures) _ (c .enum-told .given .1) (a .least .now) (a .actual .now) (a .effective .now)
+    let u = r .before in
+    unit-own (a .h .period) (a .h .modules) (upTo (standardAt (a .log .now) (a .h)) (a .h .standards)) (unitAt (a .log .now) (a .h)) (a .i) (u .unit-from .result) (reads u)
+    (r .test-unit .result) (r .test-unit .ensures) _ (c .enum-told .given .1) (a .before .now) (a .actual .now) (a .effective .now)
 
 look-up-requires : tie.Need-look-up-requires
 look-up-requires c κs =
     let s = c .before .before .before .before .before in
     let a = s .args in
-    let r = c .before .before .before .unit-within in
-    let w = widths (a .log .now) (a .h) (a .i) (r .result) (r .ensures) in
+    let u = c .before .before .before in
+    let w = widths (a .log .now) (a .h) (a .i) (u .unit-from .result) (reads u) in
     (s .pre .0, (s .pre .1 .0, (w .1, w .2)))
 
 returns-2 : tie.Need-returns-2
 returns-2 c =
     let a = c .before .before .before .before .before .before .before .before .before .args in
     let r = c .before .before .before .before .before .before in
-    let u = r .before .unit-within in
-    unit-none (a .h .period) (a .h .modules) (upTo (standardAt (a .log .now) (a .h)) (a .h .standards)) (unitAt (a .log .now) (a .h)) (a .i) (u .result) (u .ensures) (r .test-unit .result) (r .test-unit .ensures)
-    (c .before .before .before .before .enum-told2 .given .1) (none-is _ (sym (c .before .enum-told3 .given .1) ∙ c .before .before .before .look-up .ensures)) (c .refused .result) (c .refused .ensures) (a .least .now) (a .actual .now) (a .effective .now)
+    let u = r .before in
+    unit-none (a .h .period) (a .h .modules) (upTo (standardAt (a .log .now) (a .h)) (a .h .standards)) (unitAt (a .log .now) (a .h)) (a .i) (u .unit-from .result) (reads u) (r .test-unit .result) (r .test-unit .ensures)
+    (c .before .before .before .before .enum-told2 .given .1) (none-is _ (sym (c .before .enum-told3 .given .1) ∙ c .before .before .before .look-up .ensures)) (c .refused .result) (c .refused .ensures) (a .before .now) (a .actual .now) (a .effective .now)
 
 -- where the lookup found a standard
 in-force-there : (c : tie.After-s)
-    → let a = c .before .before .before .before .before .before .before .before .args in let u = c .before .before .before .before .before .before .unit-within .result in inForce (upTo (standardAt (a .log .now) (a .h)) (a .h .standards)) (u .recipe) (u .time) ≡ some (c .s .given .0 .0)
+    → let a = c .before .before .before .before .before .before .before .before .args in let u = c .before .before .before .before .before .before .unit-from .result in inForce (upTo (standardAt (a .log .now) (a .h)) (a .h .standards)) (u .recipe) (u .time) ≡ some (c .s .given .0 .0)
 in-force-there c = found-is _ _ (sym (c .s .given .1) ∙ c .before .before .look-up .ensures)
 
 short-there : (c : tie.After-s) → c .s .given .0 .0 .theoretical < 134217728
 short-there c =
     let a = c .before .before .before .before .before .before .before .before .args in
-    let u = c .before .before .before .before .before .before .unit-within .result in
+    let u = c .before .before .before .before .before .before .unit-from .result in
     short (a .log .now) (a .h) (a .h .standards) (u .recipe) (u .time) (c .s .given .0 .0) (in-force-there c)
 
-fits : (c : tie.After-s) → UnitFits (c .before .before .before .before .before .before .unit-within .result)
-fits c =
-    let a = c .before .before .before .before .before .before .before .before .args in
-    let u = c .before .before .before .before .before .before .unit-within in
-    let w = widths (a .log .now) (a .h) (a .i) (u .result) (u .ensures) in
-    (w .0, w .1, w .2)
+wide : (c : tie.After-s)
+    → let u = c .before .before .before .before .before .before .unit-from .result in (u .«module» < 64) × (u .recipe < 1024) × (u .time < 2 ^ 35) × (u .actual < 65536) × (u .effective < 65536)
+wide c = let a = c .before .before .before .before .before .before .before .before .args in let u = c .before .before .before .before .before .before in widths (a .log .now) (a .h) (a .i) (u .unit-from .result) (reads u)
+
+fits : (c : tie.After-s) → UnitFits (c .before .before .before .before .before .before .unit-from .result)
+fits c = let w = wide c in (w .0, w .1, w .2)
 
 returns-3 : tie.Need-returns-3
 returns-3 c =
     let f = c .before .before .before .before .before in
     let s = f .before .before .before .before .before .before .before .before in
     let a = s .args in
-    let u = f .before .before .before .before .before .before .unit-within in
+    let u = f .before .before .before .before .before .before in
     let t = f .before .before .before .before .before .test-unit in
-    unit-unsorted (a .h .period) (a .h .modules) (upTo (standardAt (a .log .now) (a .h)) (a .h .standards)) (unitAt (a .log .now) (a .h)) (a .i) (u .result) (u .ensures) (t .result) (t .ensures)
-    (f .before .before .before .enum-told2 .given .1) (f .s .given .0 .0) (in-force-there f) (a .least .now) (s .pre .1 .1 .0) (fits f) (omega (arith, c .before .if1 .taken, c .before .before .before .unit-number .ensures))
-    (c .refused2 .result) (c .refused2 .ensures) (a .least .now) (a .actual .now) (a .effective .now)
+    unit-unsorted (a .h .period) (a .h .modules) (upTo (standardAt (a .log .now) (a .h)) (a .h .standards)) (unitAt (a .log .now) (a .h)) (a .i) (u .unit-from .result) (reads u) (t .result) (t .ensures)
+    (f .before .before .before .enum-told2 .given .1) (f .s .given .0 .0) (in-force-there f) (a .before .now) (s .pre .1 .1 .0) (fits f) (omega (arith, c .before .if1 .taken, c .before .before .before .unit-number .ensures))
+    (c .refused2 .result) (c .refused2 .ensures) (a .before .now) (a .actual .now) (a .effective .now)
 
 credit-requires : tie.Need-credit-requires
 credit-requires c κs =
-    let s = c .before .before .before .before .before .before .before .before .before .before .before .before .before in
-    let a = s .args in
-    let u = c .before .before .before .before .before .before .before .before .before .before .before .unit-within in
-    let w = widths (a .log .now) (a .h) (a .i) (u .result) (u .ensures) in
-    (w .0, omega (arith, w .3, w .4), short-there (c .before .before .before .before .before), omega (arith, s .pre .1 .1 .1 .0 .low (u .result .«module») (w .0) .0, s .pre .1 .1 .1 .1 .0))
+    let f = c .before .before .before .before .before in
+    let s = f .before .before .before .before .before .before .before .before in
+    let w = wide f in
+    (w .0, omega (arith, w .3, w .4), short-there f, omega (arith, s .pre .1 .1 .1 .0 .low (f .before .before .before .before .before .before .unit-from .result .«module») (w .0) .0, s .pre .1 .1 .1 .1 .0))
 
 credit-requires-2 : tie.Need-credit-requires-2
 credit-requires-2 c κs =
-    let s = c .before .before .before .before .before .before .before .before .before .before .before .before .before .before .before in
-    let a = s .args in
-    let u = c .before .before .before .before .before .before .before .before .before .before .before .before .before .unit-within in
-    let w = widths (a .log .now) (a .h) (a .i) (u .result) (u .ensures) in
-    (w .0, omega (arith, w .3, w .4), short-there (c .before .before .before .before .before .before .before), omega (arith, s .pre .1 .1 .1 .0 .low (u .result .«module») (w .0) .1, s .pre .1 .1 .1 .1 .0))
+    let f = c .before .before .before .before .before .before .before in
+    let s = f .before .before .before .before .before .before .before .before in
+    let w = wide f in
+    (w .0, omega (arith, w .3, w .4), short-there f, omega (arith, s .pre .1 .1 .1 .0 .low (f .before .before .before .before .before .before .unit-from .result .«module») (w .0) .1, s .pre .1 .1 .1 .1 .0))
 
 returns-4 : tie.Need-returns-4
 returns-4 c =
     let f = c .before .before .before .before .before .before .before .before in
     let s = f .before .before .before .before .before .before .before .before in
     let a = s .args in
-    let u = f .before .before .before .before .before .before .unit-within in
+    let u = f .before .before .before .before .before .before in
     let t = f .before .before .before .before .before .test-unit in
     let n = c .before .before .before .before .before .before .unit-number in
-    let w = widths (a .log .now) (a .h) (a .i) (u .result) (u .ensures) in
-    unit-credited (a .h .period) (a .h .modules) (upTo (standardAt (a .log .now) (a .h)) (a .h .standards)) (unitAt (a .log .now) (a .h)) (a .i) (u .result) (u .ensures) (t .result) (t .ensures)
-    (f .before .before .before .enum-told2 .given .1) (f .s .given .0 .0) (in-force-there f) (a .least .now) (s .pre .1 .1 .0) (fits f) (omega (arith, c .before .before .before .before .if1 .left, n .ensures))
+    let w = wide f in
+    unit-credited (a .h .period) (a .h .modules) (upTo (standardAt (a .log .now) (a .h)) (a .h .standards)) (unitAt (a .log .now) (a .h)) (a .i) (u .unit-from .result) (reads u) (t .result) (t .ensures)
+    (f .before .before .before .enum-told2 .given .1) (f .s .given .0 .0) (in-force-there f) (a .before .now) (s .pre .1 .1 .0) (fits f) (omega (arith, c .before .before .before .before .if1 .left, n .ensures))
     (w .3) (w .4) (short-there f) (a .actual .now) (a .effective .now) (s .pre .1 .1 .1 .0)
-    (n .result + 1) (c .before .before .credit .last .0) (c .credit2 .last .0) (rw (n .ensures)) (c .before .before .credit .ensures) (c .credit2 .ensures)
+    (n .result) (c .before .before .credit .last .0) (c .credit2 .last .0) (n .ensures) (c .before .before .credit .ensures) (c .credit2 .ensures)
 
 pub credit-unit-spec : {M : Type 1} → statement M
 credit-unit-spec =
@@ -145,7 +149,6 @@ credit-unit-spec =
     (λ c κs. fits (c .before))
     (λ c κs. search needs)
     returns-3
-    (λ c. omega (arith, fits (c .before .before .before .before), c .before .before .unit-number .ensures))
     credit-requires
     credit-requires-2
     returns-4)

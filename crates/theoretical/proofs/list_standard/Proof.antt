@@ -72,6 +72,5 @@ list-standard-spec =
     returns
     (λ c. search needs)
     (λ c κs. fits (c .before .before .before .before))
-    (λ c. omega (arith, fits (c .before .before .before .before .before), c .standard-number .ensures))
     store-standard-requires
     returns-2)
