@@ -164,7 +164,7 @@ static void no_uptime(void)
 
 static void damaged(void)
 {
-    struct packed w = pack_case_w(3600000), late = pack_case_w(604800000), log;
+    struct packed w = pack_case_w(3600000), late = pack_case_w(604800000), early = pack_case_w(3599999), log;
     size_t length = packed_length(&w);
 
     refused(w.bytes, 0, TL_NO_HEADER, 0, 0);
@@ -172,6 +172,7 @@ static void damaged(void)
     refused(w.bytes, length - 1, TL_BAD_LENGTH, 0, 0);
     refused(w.bytes, length + 1, TL_BAD_LENGTH, 0, 0);
     refused(late.bytes, length, TL_OUTSIDE, 3, 2);
+    refused(early.bytes, length, TL_UNSORTED, 3, 2);
     log = w;
     log.bytes[0] |= 0xf0;
     refused(log.bytes, length, TL_BAD_PERIOD, 0, 0);

@@ -129,6 +129,7 @@ class Calls(unittest.TestCase):
         self.turned_back(log[:-1], 5)
         self.turned_back(log + b"\0", 5)
         self.turned_back(case_w(late=604800000), 9, 3, 2)
+        self.turned_back(case_w(late=3599999), 19, 3, 2)
         self.turned_back(log[:-1] + b"\x01", 6, 3, 2)
 
     def test_words(self):

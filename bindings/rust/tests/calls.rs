@@ -152,6 +152,7 @@ fn damaged() {
     turned_back(&log[..99], Ground::Length, List::None, 0);
     turned_back(&[&log[..], &[0]].concat(), Ground::Length, List::None, 0);
     turned_back(&case_w(604800000), Ground::Outside, List::Units, 2);
+    turned_back(&case_w(3599999), Ground::Unsorted, List::Units, 2);
     turned_back(&[&log[..99], &[1]].concat(), Ground::Spare, List::Units, 2);
 }
 
