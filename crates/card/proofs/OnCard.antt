@@ -6,8 +6,8 @@ use native.Mathlib.Omega.{arith}
 use lib.Dec.{T}
 use borrow.Author.Tests.{le-leb, lt-leb}
 use lib.ListN.{length, getD, List·getD-eq-default}
-use Rattle.report.specs.Report.{Put, AtFront}
-use Rattle.report.proofs.Written.{read-as, front-nothing}
+use Rattle.filling.specs.Buffer.{Put, AtFront}
+use Rattle.filling.proofs.Written.{read-as, front-nothing}
 use Rattle.card.specs.Card.{card, field, rowText, explained}
 use Rattle.card.specs.Fields.{asLines, firstLine, behindLines}
 use Rattle.card.proofs.TextLines.{plain, allPlain, line-of, line-length}

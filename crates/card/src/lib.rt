@@ -3,7 +3,8 @@ ghost use mathlib.Core.Path.{_≡_};
 ghost use mathlib.Core.List.{[], _++_};
 ghost use Prim.Native.Nat.{_+_, _≤_, _<_};
 ghost use lib.ListN.{length, drop, getD};
-ghost use Rattle.report.specs.Report.{decimal, Put, AtFront};
+ghost use Rattle.filling.specs.Buffer.{Put, AtFront};
+ghost use Rattle.report.specs.Report.{decimal};
 ghost use Rattle.card.specs.Card.{card, field, rowText, explained, isModule, whereabouts, wordsOf};
 ghost use Rattle.card.specs.Fields.{firstLine, behindLine, behindLines};
 use rules::Refusal;
@@ -37,7 +38,7 @@ fn put_line(buf: &mut [u8], at: usize, text: &[u8], k: usize) -> usize
 {
     let from = line_start(text, k);
     let end = bytes::scan::find(text, from, text.len(), b'\n');
-    report::put_text(buf, at, &text[from..end])
+    filling::put_text(buf, at, &text[from..end])
 }
 
 // Line k of the card, of which every number from 0 to 19 has three: its word, its meaning and what to look for. The caller owes the room.
@@ -96,7 +97,7 @@ fn put_named(buf: &mut [u8], at: usize, label: &[u8], n: usize, j: usize) -> usi
     ensures { λ r. ⌜ Put (now (label .entry) ++ field n j) (now (buf .entry)) at r (now (buf .exit)) ⌝ }
     ensures { λ r. ⌜ r ≤ at + length (now (label .entry)) + 96 ⌝ }
 {
-    let named = report::put_text(buf, at, label);
+    let named = filling::put_text(buf, at, label);
     put_field(buf, named, n, j)
 }
 
@@ -109,7 +110,7 @@ fn put_row(buf: &mut [u8], n: usize) -> usize
     let word = put_named(buf, number, b": ", n, 0);
     let meaning = put_named(buf, word, b"\nmeaning: ", n, 1);
     let look_for = put_named(buf, meaning, b"\nlook for: ", n, 2);
-    report::put_text(buf, look_for, b"\n")
+    filling::put_text(buf, look_for, b"\n")
 }
 
 // Writes the row of number n to the front of the buffer and answers its length: 0, and no byte changed, where the card does not have the number.
@@ -132,7 +133,7 @@ fn put_around(buf: &mut [u8], at: usize, before: &[u8], n: usize, behind: &[u8])
     ensures { λ r. ⌜ r ≤ at + length (now (before .entry)) + 20 + length (now (behind .entry)) ⌝ }
 {
     let number = report::put_labelled(buf, at, before, n);
-    report::put_text(buf, number, behind)
+    filling::put_text(buf, number, behind)
 }
 
 fn is_module(x: Refusal) -> bool
@@ -169,5 +170,5 @@ pub fn words_of(x: Refusal, buf: &mut [u8; 512]) -> usize
     let word = put_field(buf, 0, x.number, 0);
     let meaning = put_named(buf, word, b": ", x.number, 1);
     let place = put_whereabouts(buf, meaning, x);
-    report::put_text(buf, place, b"\n")
+    filling::put_text(buf, place, b"\n")
 }

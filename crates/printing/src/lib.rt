@@ -5,7 +5,8 @@ ghost use Prim.Native.Nat.{_+_, _<_, _≤_};
 ghost use lib.ListN.{length};
 ghost use Rattle.records.specs.Log.{decode};
 ghost use Rattle.rules.specs.Quantities.{timesOf, quantitiesOf};
-ghost use Rattle.report.specs.Report.{joined, Put, AtFront};
+ghost use Rattle.filling.specs.Buffer.{Put, AtFront};
+ghost use Rattle.report.specs.Report.{joined};
 ghost use Rattle.judging.specs.Working.{WorkingTotals, Consistent};
 ghost use Rattle.reporting.specs.Reports.{Prints};
 ghost use Rattle.printing.specs.Tables.{number, numbers, headingOf, told, lineIn, toolIn, tableText};
@@ -25,7 +26,7 @@ fn put_number(buf: &mut [u8], at: usize, v: u64) -> usize
     requires { ⌜ at + length (number v) ≤ length (now buf) ⌝ }
     ensures { λ r. ⌜ Put (number v) (now (buf .entry)) at r (now (buf .exit)) ⌝ }
 {
-    let space = report::put_text(buf, at, b" ");
+    let space = filling::put_text(buf, at, b" ");
     report::put_decimal(buf, space, v)
 }
 
@@ -38,7 +39,7 @@ fn put_numbers(buf: &mut [u8], at: usize, values: &[u64]) -> usize
     for k in 0..values.len() {
         next = put_number(buf, next, values[k]);
     }
-    report::put_text(buf, next, b"\n")
+    filling::put_text(buf, next, b"\n")
 }
 
 fn put_times(buf: &mut [u8], at: usize, t: StateTimes) -> usize
@@ -70,13 +71,13 @@ fn put_heading(buf: &mut [u8], table: Table) -> usize
     ensures { λ r. ⌜ Put (headingOf table) (now (buf .entry)) 0 r (now (buf .exit)) ⌝ }
 {
     match table {
-        Table::Times => report::put_text(
+        Table::Times => filling::put_text(
             buf,
             0,
             b"module productive standby engineering scheduled unscheduled nonscheduled\n",
         ),
         Table::Quantities => {
-            report::put_text(buf, 0, b"module total uptime production actual effective\n")
+            filling::put_text(buf, 0, b"module total uptime production actual effective\n")
         }
     }
 }
@@ -171,7 +172,7 @@ fn put_tool_line<'a>(
     requires { ⌜ at + length (toolIn table (decode (now log))) ≤ length (now buf) ⌝ }
     ensures { λ r. ⌜ Put (toolIn table (decode (now (log .entry)))) (now (buf .entry)) at r (now (buf .exit)) ⌝ }
 {
-    let name = report::put_text(buf, at, b"tool");
+    let name = filling::put_text(buf, at, b"tool");
     let t = judging::tool_times(log, modules, totals, uptime, actual, effective);
     let q = judging::tool_sums(log, period, modules, totals, uptime, actual, effective);
     put_told(buf, name, table, t, q)

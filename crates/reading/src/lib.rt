@@ -31,7 +31,7 @@ fn read_input(name: &mut [u8], input: &mut [u8]) -> Named
     ensures { λ r. ⌜ Counts (r .name) (now (name .exit)) ⌝ }
     ensures { λ r. ⌜ Counts (r .size) (now (input .exit)) ⌝ }
 {
-    let n = report::put_text(name, 0, b"standard input");
+    let n = filling::put_text(name, 0, b"standard input");
     read_open(STDIN_FILENO, n, input)
 }
 

@@ -1,4 +1,3 @@
-pub mod Written
 pub mod Decimals
 pub mod Lengths
 pub mod Lines

@@ -5,9 +5,10 @@ use Prim.Native.Nat.{ℕ, zero, suc, _+_, _-_, _*_, _≤_, _<_}
 use native.Mathlib.Nat.{add-zero, mul-suc}
 use native.Mathlib.Numerals.{add-one}
 use native.Mathlib.Omega.{arith}
-use lib.ListN.{length, length-append, take-append-drop}
-use Rattle.report.specs.Report.{joined, tableOf, written, Put}
-use Rattle.report.proofs.Written.{written-length, then, read-as}
+use lib.ListN.{length, length-append}
+use Rattle.filling.specs.Buffer.{Put}
+use Rattle.report.specs.Report.{joined, tableOf}
+use Rattle.filling.proofs.Written.{then, read-as, put-nothing, put-length}
 
 module _ (line : ℕ → List ℕ) where
   pub lines-none : joined line 0 ≡ []
@@ -31,14 +32,6 @@ module _ (line : ℕ → List ℕ) where
   unfolding joined
   joined-longest most zero h = omega arith
   joined-longest most (suc n) h = rw (length-append, mul-suc) (omega (arith, joined-longest most n (λ k b. h k (omega arith)), h n (omega arith)))
-
--- nothing put
-pub put-nothing : (s : List ℕ) (at : ℕ) → Put [] s at at s
-unfolding written
-put-nothing s at = record { next = omega arith; bytes = sym (rw (add-zero at) (take-append-drop at s)) }
-
-pub put-length : {xs s t : List ℕ} {at r : ℕ} → Put xs s at r t → at + length xs ≤ length s → length t ≡ length s
-put-length {xs} {s} {t} {at} p h = ap length (p .bytes) ∙ written-length s at xs h
 
 -- of n lines the first m were put
 pub record Lined (line : ℕ → List ℕ) (n m : ℕ) (s : List ℕ) (at r : ℕ) (t : List ℕ) : Type 0 where

@@ -1,10 +1,10 @@
--- The lines of the report and the line for a refused log, as bytes, and a buffer with a text written into it. Definitions only.
+-- The lines of the report and the line for a refused log, as bytes. Definitions only.
 use mathlib.Core.Path.{_≡_}
 use mathlib.Core.Bool.{cond}
 use mathlib.Core.List.{List, [], _∷_, _++_}
 use Prim.Native.Nat.{ℕ, zero, suc, _+_, _/_, _%_, _≤_, _<_}
 use lib.Dec.{ltb}
-use lib.ListN.{length, take, drop}
+use lib.ListN.{length}
 use Rattle.e79.specs.declared.Quantities.{Quantities}
 use Rattle.e79.specs.declared.Printed.{Printed}
 use Rattle.e79.specs.declared.Printed.the-variants.{Figure, NoBase}
@@ -91,15 +91,6 @@ unfoldable pub refusedLine : Refusal → List ℕ
 refusedLine x =
     (ascii "refused " ++ decimal (x .number)) ++ (ascii " list " ++ decimal (x .list)) ++ (ascii " at " ++ decimal (x .place)) ++ ascii "\n"
 
--- a buffer with a text written into it from `at` on: what stands before and behind is as it was
-unfoldable pub written : List ℕ → ℕ → List ℕ → List ℕ
-written s at xs = take at s ++ (xs ++ drop (at + length xs) s)
-
--- what a call that writes a text answers and does: the place behind the text, and the buffer with the text written from `at` on
-pub record Put (text before : List ℕ) (at r : ℕ) (after : List ℕ) : Type 0 where
-  pub next : r ≡ at + length text
-  pub bytes : after ≡ written before at text
-
 -- the length of a text, which is at most so many bytes
 pub record LengthOf (text : List ℕ) (most r : ℕ) : Type 0 where
   pub size : r ≡ length text
@@ -115,12 +106,3 @@ pub record ModuleLength (m : ℕ) (q : Quantities) (r : ℕ) : Type 0 where
   pub size : r ≡ length (moduleLine m q)
   pub within : r ≤ 38
   pub one-digit : m < 10 → r ≤ 37
-
--- a text of at most so many bytes at the front of a buffer: its length is answered, and the bytes behind it are as they were
-pub record AtFront (text : List ℕ) (most : ℕ) (before : List ℕ) (r : ℕ) (after : List ℕ) : Type 0 where
-  pub size : r ≡ length text
-  pub bytes : after ≡ text ++ drop r before
-  pub longest : r ≤ most
-  -- both follow, and are what lending the part that was written asks
-  pub within : r ≤ length after
-  pub part : r ≡ length (take r after)

@@ -10,21 +10,9 @@ ghost use mathlib.Core.List.{_++_};
 ghost use Prim.Native.Nat.{_+_, _≤_, _<_};
 ghost use lib.ListN.{length};
 ghost use Rattle.e79.specs.Quantities.{Ordered, Portion};
-ghost use Rattle.report.specs.Report.{decimal, places, figure, figures, heading, moduleLine, toolLine, Put, LengthOf, FigureLength, ModuleLength, refusedLine, AtFront};
+ghost use Rattle.filling.specs.Buffer.{Put, AtFront};
+ghost use Rattle.report.specs.Report.{decimal, places, figure, figures, heading, moduleLine, toolLine, LengthOf, FigureLength, ModuleLength, refusedLine};
 ghost use Rattle.report.specs.Report.{digit as Report·digit};
-
-// Copies a text into the buffer from `at` on. The caller owes the room.
-pub fn put_text(buf: &mut [u8], at: usize, text: &[u8]) -> usize
-    requires { ⌜ at + length (now text) ≤ length (now buf) ⌝ }
-    ensures { λ r. ⌜ Put (now (text .entry)) (now (buf .entry)) at r (now (buf .exit)) ⌝ }
-{
-    let mut i = 0;
-    while i < text.len() {
-        buf[at + i] = text[i];
-        i += 1;
-    }
-    at + i
-}
 
 // The last decimal digit of n, in ASCII.
 fn digit(n: u64) -> u8
@@ -40,10 +28,10 @@ pub fn put_decimal(buf: &mut [u8], at: usize, n: u64) -> usize
 {
     let last = [digit(n)];
     if n < 10 {
-        put_text(buf, at, &last)
+        filling::put_text(buf, at, &last)
     } else {
         let next = put_decimal(buf, at, n / 10);
-        put_text(buf, next, &last)
+        filling::put_text(buf, next, &last)
     }
 }
 
@@ -60,7 +48,7 @@ fn put_places(buf: &mut [u8], at: usize, p: u64) -> usize
         digit(p / 10),
         digit(p),
     ];
-    put_text(buf, at, &text)
+    filling::put_text(buf, at, &text)
 }
 
 // A space and the printed figure.
@@ -69,11 +57,11 @@ fn put_figure(buf: &mut [u8], at: usize, n: u64, d: u64) -> usize
     requires { ⌜ at + length (figure n d) ≤ length (now buf) ⌝ }
     ensures { λ r. ⌜ Put (figure n d) (now (buf .entry)) at r (now (buf .exit)) ⌝ }
 {
-    let field = put_text(buf, at, b" ");
+    let field = filling::put_text(buf, at, b" ");
     let printed = e79::printed_of_ordered(n, d);
     match printed {
         Printed::Figure(p) => put_places(buf, field, p),
-        Printed::NoBase => put_text(buf, field, b"-"),
+        Printed::NoBase => filling::put_text(buf, field, b"-"),
     }
 }
 
@@ -88,7 +76,7 @@ fn put_figures(buf: &mut [u8], at: usize, q: Quantities) -> usize
     let rate = put_figure(buf, operational, q.actual, q.production);
     let quality = put_figure(buf, rate, q.effective, q.actual);
     let oee = put_figure(buf, quality, q.effective, q.total);
-    put_text(buf, oee, b"\n")
+    filling::put_text(buf, oee, b"\n")
 }
 
 // The report's first line. The caller owes the room.
@@ -96,7 +84,7 @@ pub fn put_heading(buf: &mut [u8], at: usize) -> usize
     requires { ⌜ at + 32 ≤ length (now buf) ⌝ }
     ensures { λ r. ⌜ Put heading (now (buf .entry)) at r (now (buf .exit)) ⌝ }
 {
-    put_text(buf, at, b"module avail oper rate qual oee\n")
+    filling::put_text(buf, at, b"module avail oper rate qual oee\n")
 }
 
 // The line of module m. The caller owes the room, a number below 100, and that the quantities are ordered.
@@ -116,7 +104,7 @@ pub fn put_tool_line(buf: &mut [u8], at: usize, q: Quantities) -> usize
     requires { ⌜ at + length (toolLine q) ≤ length (now buf) ⌝ }
     ensures { λ r. ⌜ Put (toolLine q) (now (buf .entry)) at r (now (buf .exit)) ⌝ }
 {
-    let name = put_text(buf, at, b"tool");
+    let name = filling::put_text(buf, at, b"tool");
     put_figures(buf, name, q)
 }
 
@@ -160,7 +148,7 @@ pub fn put_labelled(buf: &mut [u8], at: usize, label: &[u8], n: usize) -> usize
     ensures { λ r. ⌜ Put (now (label .entry) ++ decimal n) (now (buf .entry)) at r (now (buf .exit)) ⌝ }
     ensures { λ r. ⌜ r ≤ at + length (now (label .entry)) + 20 ⌝ }
 {
-    let number = put_text(buf, at, label);
+    let number = filling::put_text(buf, at, label);
     put_decimal(buf, number, n as u64)
 }
 
@@ -172,5 +160,5 @@ pub fn put_refused_line(buf: &mut [u8], x: Refusal) -> usize
     let number = put_labelled(buf, 0, b"refused ", x.number);
     let list = put_labelled(buf, number, b" list ", x.list);
     let place = put_labelled(buf, list, b" at ", x.place);
-    put_text(buf, place, b"\n")
+    filling::put_text(buf, place, b"\n")
 }

@@ -17,10 +17,11 @@ use Rattle.rules.specs.Grounds.{ground, _then_}
 use Rattle.rules.specs.Quantities.{ofModule, ofTool}
 use Rattle.rules.specs.Verdict.{verdict}
 use Rattle.rules.proofs.FirstGround.{refused-not}
-use Rattle.report.specs.Report.{heading, moduleLine, moduleLines, toolLine, reportOf, refusedLine, Put, AtFront}
+use Rattle.filling.specs.Buffer.{Put, AtFront}
+use Rattle.report.specs.Report.{heading, moduleLine, moduleLines, toolLine, reportOf, refusedLine}
 use Rattle.report.proofs.Lengths.{heading-length, length-report}
 use Rattle.report.proofs.Tables.{table-length}
-use Rattle.report.proofs.Written.{written-front, at-front, front-more}
+use Rattle.filling.proofs.Written.{written-front, at-front, front-more}
 use Rattle.judging.specs.Working.{Consistent}
 use Rattle.reporting.specs.Reports.{printedBy, printed, Prints, reportText, verdictFor, of-log, short, Examined, writtenBy, writtenPart, Written}
 use Rattle.rules.proofs.KnownRefusals.{log-refusal}

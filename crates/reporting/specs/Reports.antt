@@ -15,7 +15,8 @@ use Rattle.rules.specs.Names.{noList}
 use Rattle.rules.specs.Quantities.{ofModule, ofTool}
 use Rattle.rules.specs.Verdict.{verdict}
 use Rattle.rules.specs.Refusals.{OfLog}
-use Rattle.report.specs.Report.{reportOf, refusedLine, AtFront}
+use Rattle.filling.specs.Buffer.{AtFront}
+use Rattle.report.specs.Report.{reportOf, refusedLine}
 
 -- the report: the heading, a line for each module, and the tool's line
 unfoldable pub reportText : Log → List ℕ

@@ -1,7 +1,7 @@
 // A file written whole or not at all. No contract can speak of a file: what `replace` does to one is tried by the program `keep` in samples/check-saving.
 ghost use mathlib.Core.Path.{_≡_};
 ghost use Prim.Native.Nat.{min};
-ghost use Rattle.report.specs.Report.{AtFront};
+ghost use Rattle.filling.specs.Buffer.{AtFront};
 ghost use Rattle.saving.specs.Names.{newName};
 
 fn least(a: usize, b: usize) -> usize
@@ -14,8 +14,8 @@ fn least(a: usize, b: usize) -> usize
 pub fn put_name(path: &[u8], name: &mut [u8; 4200]) -> usize
     ensures { λ r. ⌜ AtFront (newName (now (path .entry))) 4200 (now (name .entry)) r (now (name .exit)) ⌝ }
 {
-    let n = report::put_text(name, 0, &path[..least(path.len(), 4196)]);
-    report::put_text(name, n, b".new")
+    let n = filling::put_text(name, 0, &path[..least(path.len(), 4196)]);
+    filling::put_text(name, n, b".new")
 }
 
 // Writes all bytes to an open file, waits until they have reached the device, and closes it.

@@ -9,8 +9,8 @@ use borrow.Author.Tests.{ne-eqb, ltb-false}
 use lib.Dec.{ltb, eqb}
 use lib.ListN.{length, getD, set, length-map, List·getD-map}
 use Rattle.report.specs.Lines.{ends}
-use Rattle.report.specs.Report.{Put}
-use Rattle.report.proofs.Written.{Copied, copied-none, copied-more, copied-all}
+use Rattle.filling.specs.Buffer.{Put}
+use Rattle.filling.proofs.Written.{Copied, copied-none, copied-more, copied-all}
 use Rattle.saying.specs.Names.{shownByte}
 
 -- no byte as it is shown ends a line

@@ -3,7 +3,7 @@ ghost use mathlib.Core.Path.{_≡_};
 ghost use mathlib.Core.List.{map};
 ghost use Prim.Native.Nat.{_+_, _≤_};
 ghost use lib.ListN.{length};
-ghost use Rattle.report.specs.Report.{Put, AtFront};
+ghost use Rattle.filling.specs.Buffer.{Put, AtFront};
 ghost use Rattle.saying.specs.Names.{about};
 ghost use Rattle.saying.specs.Names.{shownByte as Names·shownByte};
 use libc::STDERR_FILENO;
@@ -39,7 +39,7 @@ fn put_about(name: &[u8], line: &mut [u8; 4200]) -> usize
     requires { ⌜ length (now name) ≤ 4096 ⌝ }
     ensures { λ r. ⌜ AtFront (about (now (name .entry))) 4200 (now (line .entry)) r (now (line .exit)) ⌝ }
 {
-    let program = report::put_text(line, 0, b"toollog: ");
+    let program = filling::put_text(line, 0, b"toollog: ");
     put_shown(line, program, name)
 }
 

@@ -1,7 +1,7 @@
 -- `card::put_around` meets its contract: the second text stands behind the number. Assumes nothing.
 use borrow.Author.Needs.{needs}
 use native.Mathlib.Omega.{arith}
-use Rattle.report.proofs.Written.{then}
+use Rattle.filling.proofs.Written.{then}
 use Rattle.card.proofs.put_around.Statement.{statement}
 use Rattle.card.proofs.put_around.Tie as tie
 

@@ -1,6 +1,6 @@
 -- `card::put_field` meets its contract: a number past the card has no fields, like 0. Assumes nothing.
 use borrow.Author.Needs.{needs}
-use Rattle.report.proofs.Written.{read-as}
+use Rattle.filling.proofs.Written.{read-as}
 use Rattle.card.specs.Card.{field}
 use Rattle.card.proofs.OnCard.{past-card}
 use Rattle.card.proofs.put_field.Statement.{statement}

@@ -3,7 +3,7 @@ use borrow.Author.Needs.{needs}
 use mathlib.Core.Path.{_≡_, ap, _∙_}
 use Prim.Native.Nat.{_-_}
 use lib.ListN.{take, drop}
-use Rattle.report.proofs.Written.{read-as}
+use Rattle.filling.proofs.Written.{read-as}
 use Rattle.card.specs.Fields.{firstLine, behindLines}
 use Rattle.card.proofs.TextLines.{line-before}
 use Rattle.card.proofs.put_line.Statement.{statement}

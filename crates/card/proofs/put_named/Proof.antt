@@ -1,7 +1,7 @@
 -- `card::put_named` meets its contract: the field stands behind the label. Assumes nothing.
 use borrow.Author.Needs.{needs}
 use native.Mathlib.Omega.{arith}
-use Rattle.report.proofs.Written.{then}
+use Rattle.filling.proofs.Written.{then}
 use Rattle.card.proofs.put_named.Statement.{statement}
 use Rattle.card.proofs.put_named.Tie as tie
 

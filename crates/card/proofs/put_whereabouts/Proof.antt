@@ -2,8 +2,7 @@
 use borrow.Author.Needs.{needs}
 use mathlib.Core.Path.{sym, _∙_}
 use native.Mathlib.Omega.{arith}
-use Rattle.report.proofs.Written.{read-as}
-use Rattle.report.proofs.Tables.{put-nothing}
+use Rattle.filling.proofs.Written.{read-as, put-nothing}
 use Rattle.card.proofs.Whereabouts.{in-states, in-standards, in-units, at-module, at-none}
 use Rattle.card.proofs.put_whereabouts.Statement.{statement}
 use Rattle.card.proofs.put_whereabouts.Tie as tie

@@ -7,9 +7,10 @@ use Prim.Native.Nat.{ℕ, _^_, _≤_, _<_}
 use native.Mathlib.Omega.{arith}
 use lib.ListN.{length, replicate}
 use Rattle.report.specs.Text.{reading}
-use Rattle.report.specs.Report.{decimal, AtFront}
+use Rattle.filling.specs.Buffer.{AtFront}
+use Rattle.report.specs.Report.{decimal}
 use Rattle.report.proofs.Decimals.{decimal-length, decimal-reads}
-use Rattle.report.proofs.Written.{at-front, front-text}
+use Rattle.filling.proofs.Written.{at-front, front-text}
 use Rattle.parsing.specs.declared.Parsed.the-variants.{Number, NoNumber}
 use Rattle.parsing.specs.Parsed.{NotDecimal, ParsedFrom}
 use Rattle.parsing.proofs.parse_number.Statement.{statement}

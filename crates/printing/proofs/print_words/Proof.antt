@@ -1,7 +1,7 @@
 -- `printing::print_words` meets its contract: the words are the refusal's, and an accepted log has none. Assumes nothing.
 use borrow.Author.Needs.{needs}
 use mathlib.Core.Path.{sym, ap, _∙_}
-use Rattle.report.proofs.Written.{front-nothing}
+use Rattle.filling.proofs.Written.{front-nothing}
 use Rattle.printing.specs.Words.{wordsBy, inWords}
 use Rattle.printing.proofs.print_words.Statement.{statement}
 use Rattle.printing.proofs.print_words.Tie as tie

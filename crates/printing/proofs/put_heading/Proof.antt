@@ -3,7 +3,7 @@ use borrow.Author.Needs.{needs}
 use mathlib.Core.Path.{ap}
 use native.Mathlib.Omega.{arith}
 use lib.ListN.{length}
-use Rattle.report.proofs.Written.{read-as}
+use Rattle.filling.proofs.Written.{read-as}
 use Rattle.printing.specs.Tables.{headingOf}
 use Rattle.printing.proofs.Printing.{times-heading, quantities-heading}
 use Rattle.printing.proofs.put_heading.Statement.{statement}

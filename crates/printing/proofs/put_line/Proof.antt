@@ -4,7 +4,7 @@ use mathlib.Core.Path.{_≡_}
 use native.Mathlib.Omega.{arith}
 use Rattle.records.specs.Log.{decode}
 use Rattle.rules.specs.Quantities.{moduleTimes, ofModule}
-use Rattle.report.proofs.Written.{then, read-as}
+use Rattle.filling.proofs.Written.{then, read-as}
 use Rattle.printing.specs.Tables.{numbers, told}
 use Rattle.printing.proofs.Printing.{told-same, line-decimal, line-length}
 use Rattle.printing.proofs.put_line.Statement.{statement}

@@ -3,9 +3,10 @@ use mathlib.Core.Path.{_≡_, ap}
 use Prim.Native.Nat.{_-_}
 use native.Mathlib.Omega.{arith}
 use Rattle.records.specs.Log.{decode}
-use Rattle.report.specs.Report.{joined, Put}
-use Rattle.report.proofs.Written.{read-as}
-use Rattle.report.proofs.Tables.{Lined, lined-none, lined-room, lined-more, put-length}
+use Rattle.filling.specs.Buffer.{Put}
+use Rattle.report.specs.Report.{joined}
+use Rattle.filling.proofs.Written.{read-as, put-length}
+use Rattle.report.proofs.Tables.{Lined, lined-none, lined-room, lined-more}
 use Rattle.printing.specs.Tables.{lineIn}
 use Rattle.printing.proofs.put_lines.Statement.{statement}
 use Rattle.printing.proofs.put_lines.Tie as tie

@@ -1,7 +1,7 @@
 -- `printing::put_number` meets its contract: the number stands behind the space. Assumes nothing.
 use borrow.Author.Needs.{needs}
 use native.Mathlib.Omega.{arith}
-use Rattle.report.proofs.Written.{then}
+use Rattle.filling.proofs.Written.{then}
 use Rattle.printing.specs.Tables.{number}
 use Rattle.printing.proofs.Numbers.{number-length}
 use Rattle.printing.proofs.put_number.Statement.{statement}

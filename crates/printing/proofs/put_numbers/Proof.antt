@@ -4,9 +4,10 @@ use mathlib.Core.Path.{_≡_, refl, ap}
 use Prim.Native.Nat.{_+_, _-_, _≤_}
 use native.Mathlib.Omega.{arith}
 use lib.ListN.{length}
-use Rattle.report.specs.Report.{joined, Put}
-use Rattle.report.proofs.Tables.{Lined, lined-none, lined-room, lined-more, put-length}
-use Rattle.report.proofs.Written.{then, read-as}
+use Rattle.filling.specs.Buffer.{Put}
+use Rattle.report.specs.Report.{joined}
+use Rattle.report.proofs.Tables.{Lined, lined-none, lined-room, lined-more}
+use Rattle.filling.proofs.Written.{put-length, then, read-as}
 use Rattle.printing.specs.Tables.{numbers}
 use Rattle.printing.proofs.Numbers.{nth, numbers-length}
 use Rattle.printing.proofs.put_numbers.Statement.{statement}

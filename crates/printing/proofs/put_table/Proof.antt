@@ -3,9 +3,10 @@ use borrow.Author.Needs.{needs}
 use mathlib.Core.Path.{ap}
 use native.Mathlib.Omega.{arith}
 use Rattle.records.specs.Log.{decode}
-use Rattle.report.specs.Report.{joined, Put}
+use Rattle.filling.specs.Buffer.{Put}
+use Rattle.report.specs.Report.{joined}
 use Rattle.report.proofs.Tables.{head-room, lines-room, last-room, all-put}
-use Rattle.report.proofs.Written.{read-as}
+use Rattle.filling.proofs.Written.{read-as}
 use Rattle.printing.specs.Tables.{headingOf, lineIn, toolIn, tableText}
 use Rattle.printing.proofs.put_table.Statement.{statement}
 use Rattle.printing.proofs.put_table.Tie as tie

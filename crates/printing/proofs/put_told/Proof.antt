@@ -2,7 +2,7 @@
 use borrow.Author.Needs.{needs}
 use mathlib.Core.Path.{_≡_, sym, ap}
 use Rattle.rules.specs.Quantities.{timesOf, quantitiesOf}
-use Rattle.report.proofs.Written.{read-as}
+use Rattle.filling.proofs.Written.{read-as}
 use Rattle.printing.specs.Tables.{numbers, told}
 use Rattle.printing.proofs.put_told.Statement.{statement}
 use Rattle.printing.proofs.put_told.Tie as tie

@@ -5,7 +5,7 @@ use native.Mathlib.Omega.{arith}
 use Rattle.records.specs.Log.{decode}
 use Rattle.rules.specs.Quantities.{toolTimes, ofTool}
 use Rattle.report.specs.Report.{tool}
-use Rattle.report.proofs.Written.{then, read-as}
+use Rattle.filling.proofs.Written.{then, read-as}
 use Rattle.printing.specs.Tables.{numbers, told, toolIn}
 use Rattle.printing.proofs.Printing.{told-same, tool-length}
 use Rattle.printing.proofs.put_tool_line.Statement.{statement}

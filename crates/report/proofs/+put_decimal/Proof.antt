@@ -7,7 +7,7 @@ use Prim.Native.Nat.{ℕ, _/_, _<_}
 use native.Mathlib.Omega.{arith}
 use lib.ListN.{length}
 use Rattle.report.specs.Report.{decimal}
-use Rattle.report.proofs.Written.{then, read-as}
+use Rattle.filling.proofs.Written.{then, read-as}
 use Rattle.report.proofs.Decimals.{decimal-below, decimal-more, decimal-more-length}
 use borrow.Fn.Kinds.{In}
 use borrow.Fn.PlainCycle.{Measures, is, falls, and}
@@ -15,7 +15,7 @@ use Rattle.report.proofs.put_decimal.Reads as put-decimal
 use Rattle.report.proofs.put_decimal.Kinds as put-decimal-kinds
 use Rattle.report.proofs.+put_decimal.Lts-put_decimal as put-decimal-lts
 use Rattle.report.proofs.digit.Reads as digit-reads
-use Rattle.report.proofs.put_text.Reads as put-text-reads
+use Rattle.filling.proofs.put_text.Reads as put-text-reads
 use Rattle.report.proofs.+put_decimal.{statement}
 use Rattle.report.proofs.+put_decimal.Tie.{close}
 

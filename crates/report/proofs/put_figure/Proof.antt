@@ -5,7 +5,7 @@ use native.Mathlib.Omega.{arith}
 use lib.ListN.{length}
 use Rattle.report.specs.Text.{ascii}
 use Rattle.report.specs.Report.{places, shown, figure}
-use Rattle.report.proofs.Written.{then, read-as}
+use Rattle.filling.proofs.Written.{then, read-as}
 use Rattle.report.proofs.Lengths.{figure-space}
 use borrow.Author.Needs.{needs}
 use Rattle.report.proofs.put_figure.Statement.{statement}

@@ -1,7 +1,7 @@
 -- `report::put_figures` meets its contract: each figure and the line's end are written one behind the other. Assumes nothing.
 use native.Mathlib.Omega.{arith}
 use Rattle.report.specs.Report.{figures}
-use Rattle.report.proofs.Written.{then}
+use Rattle.filling.proofs.Written.{then}
 use Rattle.report.proofs.Lengths.{figures-length}
 use borrow.Author.Needs.{needs}
 use Rattle.report.proofs.put_figures.Statement.{statement}

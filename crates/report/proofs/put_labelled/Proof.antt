@@ -4,7 +4,7 @@ use Prim.Native.Nat.{_≤_}
 use native.Mathlib.Omega.{arith}
 use lib.ListN.{length}
 use Rattle.report.specs.Report.{decimal}
-use Rattle.report.proofs.Written.{then}
+use Rattle.filling.proofs.Written.{then}
 use Rattle.report.proofs.Decimals.{decimal-length}
 use Rattle.report.proofs.put_labelled.Statement.{statement}
 use Rattle.report.proofs.put_labelled.Tie as tie

@@ -5,7 +5,7 @@ use Prim.Native.Nat.{_+_}
 use native.Mathlib.Omega.{arith}
 use lib.ListN.{length}
 use Rattle.report.specs.Report.{decimal, figures, moduleLine}
-use Rattle.report.proofs.Written.{then, read-as}
+use Rattle.filling.proofs.Written.{then, read-as}
 use Rattle.report.proofs.Decimals.{short-decimal}
 use Rattle.report.proofs.Lengths.{module-length}
 use borrow.Author.Needs.{needs}

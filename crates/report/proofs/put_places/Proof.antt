@@ -3,7 +3,7 @@ use mathlib.Core.Path.{_≡_}
 use mathlib.Core.List.{[], _∷_}
 use Prim.Native.Nat.{ℕ, _/_}
 use Rattle.report.specs.Report.{digit, places}
-use Rattle.report.proofs.Written.{read-as}
+use Rattle.filling.proofs.Written.{read-as}
 use borrow.Author.Needs.{needs}
 use Rattle.report.proofs.put_places.Statement.{statement}
 use Rattle.report.proofs.put_places.Tie as tie

@@ -2,8 +2,9 @@
 use borrow.Author.Needs.{needs}
 use native.Mathlib.Omega.{arith}
 use denote.Ref.{now}
-use Rattle.report.specs.Report.{refusedLine, Put}
-use Rattle.report.proofs.Written.{then, at-front}
+use Rattle.filling.specs.Buffer.{Put}
+use Rattle.report.specs.Report.{refusedLine}
+use Rattle.filling.proofs.Written.{then, at-front}
 use Rattle.report.proofs.put_refused_line.Statement.{statement}
 use Rattle.report.proofs.put_refused_line.Tie as tie
 

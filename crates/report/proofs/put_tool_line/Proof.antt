@@ -1,7 +1,7 @@
 -- `report::put_tool_line` meets its contract: the byte string is the word, and the figures follow it. Assumes nothing.
 use native.Mathlib.Omega.{arith}
 use Rattle.report.specs.Report.{tool, toolLine}
-use Rattle.report.proofs.Written.{then}
+use Rattle.filling.proofs.Written.{then}
 use Rattle.report.proofs.Lengths.{tool-length}
 use borrow.Author.Needs.{needs}
 use Rattle.report.proofs.put_tool_line.Statement.{statement}

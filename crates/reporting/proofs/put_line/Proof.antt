@@ -4,7 +4,7 @@ use borrow.Author.Needs.{needs}
 use mathlib.Core.Path.{ap}
 use native.Mathlib.Omega.{arith}
 use Rattle.report.specs.Report.{moduleLine}
-use Rattle.report.proofs.Written.{read-as}
+use Rattle.filling.proofs.Written.{read-as}
 use Rattle.reporting.proofs.put_line.Statement.{statement}
 use Rattle.reporting.proofs.put_line.Tie as tie
 

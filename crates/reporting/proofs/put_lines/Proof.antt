@@ -5,9 +5,10 @@ use Prim.Native.Nat.{_-_}
 use native.Mathlib.Omega.{arith}
 use Rattle.records.specs.Log.{decode}
 use Rattle.rules.specs.Quantities.{ofModule}
-use Rattle.report.specs.Report.{moduleLine, moduleLines, Put}
-use Rattle.report.proofs.Written.{read-as}
-use Rattle.report.proofs.Tables.{Lined, lined-none, lined-room, lined-more, put-length}
+use Rattle.filling.specs.Buffer.{Put}
+use Rattle.report.specs.Report.{moduleLine, moduleLines}
+use Rattle.filling.proofs.Written.{read-as, put-length}
+use Rattle.report.proofs.Tables.{Lined, lined-none, lined-room, lined-more}
 use Rattle.reporting.proofs.put_lines.Statement.{statement}
 use Rattle.reporting.proofs.put_lines.Tie as tie
 

@@ -6,10 +6,11 @@ use mathlib.Core.List.{List}
 use Prim.Native.Nat.{ℕ}
 use Rattle.records.specs.Log.{Log, decode}
 use Rattle.rules.specs.Quantities.{ofModule, ofTool}
-use Rattle.report.specs.Report.{heading, moduleLine, moduleLines, toolLine, reportOf, Put}
+use Rattle.filling.specs.Buffer.{Put}
+use Rattle.report.specs.Report.{heading, moduleLine, moduleLines, toolLine, reportOf}
 use Rattle.report.proofs.Lengths.{heading-length}
 use Rattle.report.proofs.Tables.{head-room, lines-room, last-room, all-put}
-use Rattle.report.proofs.Written.{read-as}
+use Rattle.filling.proofs.Written.{read-as}
 use Rattle.judging.proofs.Accepted.{tool-ordered}
 use Rattle.reporting.specs.Reports.{reportText}
 use Rattle.reporting.proofs.put_report.Statement.{statement}

@@ -9,7 +9,7 @@ use native.Mathlib.Omega.{arith}
 use lib.ListN.{length, take, length-append}
 use lib.Seq.{length-take-le, take-all}
 use Rattle.report.specs.Text.{ascii}
-use Rattle.report.proofs.Written.{then, read-as, at-front}
+use Rattle.filling.proofs.Written.{then, read-as, at-front}
 use Rattle.saving.specs.Names.{newName}
 use Rattle.saving.proofs.put_name.Statement.{statement}
 use Rattle.saving.proofs.put_name.Tie as tie

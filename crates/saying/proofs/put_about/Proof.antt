@@ -1,7 +1,7 @@
 -- `saying::put_about` meets its contract: the name stands behind the program's. Assumes nothing.
 use borrow.Author.Needs.{needs}
 use native.Mathlib.Omega.{arith}
-use Rattle.report.proofs.Written.{then, at-front}
+use Rattle.filling.proofs.Written.{then, at-front}
 use Rattle.saying.specs.Names.{about}
 use Rattle.saying.proofs.Shown.{shown-length}
 use Rattle.saying.proofs.put_about.Statement.{statement}

@@ -4,7 +4,7 @@ use Prim.Native.Nat.{_-_}
 use mathlib.Core.List.{map}
 use native.Mathlib.Omega.{arith}
 use lib.ListN.{length}
-use Rattle.report.proofs.Written.{Copied}
+use Rattle.filling.proofs.Written.{Copied}
 use Rattle.saying.specs.Names.{shownByte}
 use Rattle.saying.proofs.Shown.{shown-none, shown-more, shown-all, shown-length}
 use Rattle.saying.proofs.put_shown.Statement.{statement}

@@ -6,7 +6,7 @@ use mathlib.Core.List.{List}
 use Prim.Native.Nat.{ℕ}
 use native.Mathlib.Omega.{arith}
 use lib.ListN.{length, take, drop, length-append, length-drop}
-use Rattle.report.proofs.Written.{front-text}
+use Rattle.filling.proofs.Written.{front-text}
 use Rattle.reporting.specs.Reports.{reportText, printed, Prints}
 use Rattle.cases.proofs.texts.prints.Statement.{statement}
 use Rattle.cases.proofs.texts.prints.Tie as tie

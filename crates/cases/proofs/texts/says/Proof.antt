@@ -1,7 +1,7 @@
 -- The line stands at the front of the buffer. Assumes nothing.
 use borrow.Author.Needs.{needs}
 use mathlib.Core.Path.{sym, _∙_}
-use Rattle.report.proofs.Written.{front-text}
+use Rattle.filling.proofs.Written.{front-text}
 use Rattle.cases.proofs.texts.says.Statement.{statement}
 use Rattle.cases.proofs.texts.says.Tie as tie
 

@@ -1,11 +1,11 @@
--- `report::put_text` meets its contract: after i turns the first i bytes are copied, and the loop ends with all of them. Assumes nothing.
+-- `filling::put_text` meets its contract: after i turns the first i bytes are copied, and the loop ends with all of them. Assumes nothing.
 use mathlib.Core.Path.{refl}
 use Prim.Native.Nat.{_-_}
 use native.Mathlib.Omega.{arith}
 use lib.ListN.{length}
-use Rattle.report.proofs.Written.{Copied, copied-none, copied-more, copied-all}
-use Rattle.report.proofs.put_text.Statement.{statement}
-use Rattle.report.proofs.put_text.Tie as tie
+use Rattle.filling.proofs.Written.{Copied, copied-none, copied-more, copied-all}
+use Rattle.filling.proofs.put_text.Statement.{statement}
+use Rattle.filling.proofs.put_text.Tie as tie
 
 abbrev Inv-loop : tie.InvT-loop
 Inv-loop buf₀ at text i₀ buf i = Copied text buf₀ at i buf

@@ -2,12 +2,12 @@
 use mathlib.Core.Path.{_≡_, refl, sym, ap, _∙_}
 use mathlib.Core.List.{List, [], _∷_, _++_, append-assoc, append-nil}
 use Prim.Native.Nat.{ℕ, zero, suc, _+_, _≤_, _<_}
-use native.Mathlib.Nat.{zero-add, suc-add, le-refl}
+use native.Mathlib.Nat.{add-zero, zero-add, suc-add, le-refl}
 use native.Mathlib.Numerals.{add-one}
 use native.Mathlib.Omega.{arith}
-use lib.ListN.{length, take, drop, getD, set, length-append, length-set, drop-of-length-le}
+use lib.ListN.{length, take, drop, getD, set, length-append, length-set, drop-of-length-le, take-append-drop}
 use lib.Seq.{paste, paste-zero, paste-suc, take-length, length-paste, drop-paste, drop-drop, take-at, drop-at, take-append-seam, drop-append-add, drop-nil, take-all, length-take-le}
-use Rattle.report.specs.Report.{written, Put, AtFront}
+use Rattle.filling.specs.Buffer.{written, Put, AtFront}
 
 -- a whole text pasted in
 written-paste : (s : List ℕ) (at : ℕ) (xs : List ℕ) → written s at xs ≡ paste s at xs (length xs)
@@ -36,6 +36,13 @@ module _ (s : List ℕ) (at : ℕ) (xs : List ℕ) (room : at + length xs ≤ le
   unfolding written
   written-text = rw (drop-at (take at s) (xs ++ drop (at + length xs) s) at (length-take-le at s starts)) (take-append-seam xs (drop (at + length xs) s))
 
+  -- up to the text's end
+  pub written-through : take (at + length xs) (written s at xs) ≡ take at s ++ xs
+  unfolding written
+  written-through =
+      let size : length (take at s ++ xs) ≡ at + length xs = length-append (take at s) xs ∙ rw (length-take-le at s starts) in
+      rw (← append-assoc (take at s) xs (drop (at + length xs) s)) (take-at (take at s ++ xs) (drop (at + length xs) s) (at + length xs) size)
+
 -- a text written behind another is both texts written as one
 pub written-written : (s : List ℕ) (at : ℕ) (xs ys : List ℕ) → written (written s at xs) (at + length xs) ys ≡ written s at (xs ++ ys)
 unfolding written
@@ -57,6 +64,14 @@ then {xs} {ys} {s} {t} {u} {at} {n} {m} p q =
 -- a text put is put under each of its descriptions
 pub read-as : {xs ys s t : List ℕ} {at r : ℕ} → xs ≡ ys → Put xs s at r t → Put ys s at r t
 read-as e p = rw e at p
+
+-- nothing put
+pub put-nothing : (s : List ℕ) (at : ℕ) → Put [] s at at s
+unfolding written
+put-nothing s at = record { next = omega arith; bytes = sym (rw (add-zero at) (take-append-drop at s)) }
+
+pub put-length : {xs s t : List ℕ} {at r : ℕ} → Put xs s at r t → at + length xs ≤ length s → length t ≡ length s
+put-length {xs} {s} {t} {at} p h = ap length (p .bytes) ∙ written-length s at xs h
 
 -- a text at the front
 fronted : {text : List ℕ} {most : ℕ} {before : List ℕ} {r : ℕ} {after : List ℕ} → r ≡ length text → after ≡ text ++ drop r before → r ≤ most → AtFront text most before r after
