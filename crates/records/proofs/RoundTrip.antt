@@ -13,7 +13,8 @@ use Rattle.records.specs.Fields.{stateFrom, standardFrom, unitFrom}
 use Rattle.records.specs.Log.{Log, headerOf, stateAt, standardAt, unitAt, upTo, decode}
 use Rattle.records.specs.Encode.{headerSlots, stateSlots, standardSlots, unitSlots, headerBytes, stateBytes, standardBytes, unitBytes, joined, headerFor, encode, AllFit, LogFits}
 use Rattle.records.specs.declared.Header.{Header}
-use Rattle.records.proofs.UpTo.{length-up-to, up-to-all}
+use Rattle.records.proofs.UpTo.{up-to-all}
+use Rattle.records.proofs.Widths.{header-counts}
 use Rattle.records.proofs.RecordKinds.{Kind, placed, rewritten, header-kind, state-kind, standard-kind, unit-kind}
 
 -- ---- the bytes of a list of records
@@ -141,8 +142,7 @@ pub encode-decode : (s : List ℕ) → ((k : ℕ) → getD s k 0 < 256) → leng
 unfolding decode encode
 encode-decode s small e =
     let h = headerOf s in
-    let counted : headerFor (decode s) ≡ h = rw (length-up-to (stateAt s) (h .states), length-up-to (standardAt s h) (h .standards), length-up-to (unitAt s h) (h .units)) in
-    ap (λ (x : Header). headerBytes x ++ (joined stateBytes (upTo (stateAt s) (h .states)) ++ (joined standardBytes (upTo (standardAt s h) (h .standards)) ++ joined unitBytes (upTo (unitAt s h) (h .units))))) counted
+    ap (λ (x : Header). headerBytes x ++ (joined stateBytes (upTo (stateAt s) (h .states)) ++ (joined standardBytes (upTo (standardAt s h) (h .standards)) ++ joined unitBytes (upTo (unitAt s h) (h .units))))) (header-counts s)
     ∙ rw (
       rewritten header-kind s 0 small (omega arith),
       list-written state-kind (stateAt s) s 10 small (state-place s) (h .states) (omega arith),

@@ -1,0 +1,38 @@
+-- The two numbers of which a record's bytes are: each is below 2^64, and they are the parts of the record's number.
+-- Assumes nothing.
+use mathlib.Core.Path.{_≡_}
+use Prim.Native.Nat.{ℕ, _+_, _*_, _/_, _%_, _^_, _<_}
+use native.Mathlib.Omega.{arith}
+use Rattle.writing.specs.Writing.{headerEntry, standardEntry, unitEntry}
+use Rattle.writing.proofs.Bytes.{valueOf}
+
+-- a sum's first part is below what the sum is below
+pub part-lt : (x y n : ℕ) → x + y < n → x < n
+part-lt x y n h = omega arith
+
+pub standard-lt : (r s t : ℕ) → r < 2 ^ 10 → s < 2 ^ 35 → t < 2 ^ 27 → r * 2 ^ 54 + s * 2 ^ 19 + t / 2 ^ 8 < 2 ^ 64
+standard-lt r s t h k l = omega arith
+
+pub standard-first : (r s t : ℕ) → r * 2 ^ 54 + s * 2 ^ 19 + t / 2 ^ 8 ≡ valueOf (standardEntry r s t .slots) / 2 ^ 8
+standard-first r s t = omega arith
+
+pub standard-second : (r s t : ℕ) → t % 2 ^ 8 ≡ valueOf (standardEntry r s t .slots) % 2 ^ 8
+standard-second r s t = omega arith
+
+pub unit-lt : (m r t a : ℕ) → m < 2 ^ 6 → r < 2 ^ 10 → t < 2 ^ 35 → a < 2 ^ 16 → m * 2 ^ 58 + r * 2 ^ 48 + t * 2 ^ 13 + a / 2 ^ 3 < 2 ^ 64
+unit-lt m r t a h k l n = omega arith
+
+pub unit-first : (m r t a e : ℕ) → e < 2 ^ 16 → m * 2 ^ 58 + r * 2 ^ 48 + t * 2 ^ 13 + a / 2 ^ 3 ≡ valueOf (unitEntry m r t a e .slots) / 2 ^ 24
+unit-first m r t a e h = omega arith
+
+pub unit-second : (m r t a e : ℕ) → (a * 2 ^ 21 + e * 2 ^ 5) % 2 ^ 24 ≡ valueOf (unitEntry m r t a e .slots) % 2 ^ 24
+unit-second m r t a e = omega arith
+
+pub header-lt : (p m s : ℕ) → p < 2 ^ 35 → m < 2 ^ 7 → s < 2 ^ 14 → p * 2 ^ 21 + m * 2 ^ 14 + s < 2 ^ 64
+header-lt p m s h k l = omega arith
+
+pub header-first : (p m s d u : ℕ) → d < 2 ^ 11 → u < 2 ^ 13 → p * 2 ^ 21 + m * 2 ^ 14 + s ≡ valueOf (headerEntry p m s d u .slots) / 2 ^ 24
+header-first p m s d u h k = omega arith
+
+pub header-second : (p m s d u : ℕ) → (d * 2 ^ 13 + u) % 2 ^ 24 ≡ valueOf (headerEntry p m s d u .slots) % 2 ^ 24
+header-second p m s d u = omega arith

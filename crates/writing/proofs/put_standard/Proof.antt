@@ -1,0 +1,52 @@
+-- `writing::put_standard` meets its contract: what is added up is what is above the fields, and the numbers put have the fields side by side.
+-- Assumes nothing.
+use borrow.Author.Needs.{needs}
+use mathlib.Core.Path.{refl}
+use native.Mathlib.Omega.{arith}
+use denote.Ref.{now}
+use Rattle.bits.specs.Put.{Fit}
+use Rattle.writing.specs.Writing.{standardEntry}
+use Rattle.writing.proofs.Fitting.{fit-excess}
+use Rattle.writing.proofs.Bytes.{record-bytes}
+use Rattle.writing.proofs.Values.{part-lt, standard-lt, standard-first, standard-second}
+use Rattle.writing.proofs.Storing.{not-added, added}
+use Rattle.writing.proofs.put_standard.Statement.{statement}
+use Rattle.writing.proofs.put_standard.Tie as tie
+
+returns : tie.Need-returns
+returns c =
+    let s = c .before .before .before .args in
+    not-added (standardEntry (s .recipe) (s .start) (s .theoretical)) (now (s .buf)) (s .at) _ (omega arith) (c .refused .ensures)
+
+fit : (c : tie.Else1) → let s = c .before .before .args in Fit (standardEntry (s .recipe) (s .start) (s .theoretical) .slots)
+fit c = let s = c .before .before .args in fit-excess (standardEntry (s .recipe) (s .start) (s .theoretical) .slots) (omega arith)
+
+add-first : tie.Need-add-first
+add-first c = let f = fit c in record { fits = part-lt _ _ _ (standard-lt _ _ _ (f .0) (f .1 .0) (f .1 .1 .0)) }
+
+add-first-2 : tie.Need-add-first-2
+add-first-2 c = let f = fit c in record { fits = standard-lt _ _ _ (f .0) (f .1 .0) (f .1 .1 .0) }
+
+returns-2 : tie.Need-returns-2
+returns-2 c =
+    let a = c .before .before in
+    let s = a .before .before .before .before .args in
+    let e = standardEntry (s .recipe) (s .start) (s .theoretical) in
+    let f = fit (a .before .before) in
+    added e (now (s .buf)) (s .at) _ _ _ f (record-bytes 8 1 (e .slots) _ _ f refl (standard-first _ _ _) (standard-second (s .recipe) (s .start) _)) (a .add .ensures)
+
+pub put-standard-spec : {M : Type 1} → statement M
+put-standard-spec =
+    tie.close
+    (tie.spec
+    (λ c. search needs)
+    (λ c. search needs)
+    (λ c κs. search needs)
+    returns
+    (λ c. search needs)
+    (λ c. search needs)
+    add-first
+    add-first-2
+    (λ c κs. search needs)
+    (λ c. search needs)
+    returns-2)

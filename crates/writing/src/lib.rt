@@ -1,0 +1,135 @@
+// Writing a log into a lent buffer, record by record, and the test of what was written. No public call has a `requires`: any position and any value
+// is taken, and nothing is remembered from one call to the next.
+ghost use mathlib.Core.Path.{_≡_};
+ghost use mathlib.Core.List.{_++_};
+ghost use Prim.Native.Nat.{_≤_};
+ghost use Rattle.filling.specs.Buffer.{bigEndian};
+ghost use Rattle.writing.specs.Writing.{headerEntry, stateEntry, standardEntry, unitEntry, Added, Finished};
+ghost use Rattle.writing.specs.Storing.{Stored};
+use rules::Refusal;
+use rules::Verdict;
+
+// The position behind the record that was added, in bytes, or why none was.
+pub enum PositionAnswer {
+    Answered(usize),
+    Refused(Refusal),
+}
+
+fn refused(number: usize, list: usize) -> PositionAnswer
+    ensures { λ r. ⌜ r ≡ PositionAnswer.Refused (record { number = number; list = list; place = 0 }) ⌝ }
+{
+    PositionAnswer::Refused(Refusal {
+        number,
+        list,
+        place: 0,
+    })
+}
+
+// Puts the m low bytes of one number and the n low bytes of another behind them, unless the buffer has no place for both at the position.
+fn add(buf: &mut [u8], at: usize, m: usize, first: u64, n: usize, second: u64) -> PositionAnswer
+    requires { ⌜ (m ≤ 8) × (n ≤ 8) ⌝ }
+    ensures { λ r. ⌜ Stored (bigEndian m first ++ bigEndian n second) (now (buf .entry)) at r (now (buf .exit)) ⌝ }
+{
+    let room = buf.len();
+    if room < m + n {
+        return refused(18, 0);
+    }
+    if room - (m + n) < at {
+        return refused(18, 0);
+    }
+    let middle = filling::put_number(buf, at, m, first);
+    PositionAnswer::Answered(filling::put_number(buf, middle, n, second))
+}
+
+// Adds a header. In each of the four calls a quotient above 0 is a value that does not fit its field, and the sum is far from overflowing.
+pub fn put_header(
+    buf: &mut [u8],
+    at: usize,
+    period: u64,
+    modules: u64,
+    states: u64,
+    standards: u64,
+    units: u64,
+) -> PositionAnswer
+    ensures { λ r. ⌜ Added (headerEntry period modules states standards units) (now (buf .entry)) at r (now (buf .exit)) ⌝ }
+{
+    if period / 0x8_0000_0000
+        + modules / 0x80
+        + states / 0x4000
+        + standards / 0x800
+        + units / 0x2000
+        > 0
+    {
+        return refused(22, 0);
+    }
+    let first = period * 0x20_0000 + modules * 0x4000 + states;
+    let second = standards * 0x2000 + units;
+    add(buf, at, 7, first, 3, second)
+}
+
+// Adds a state record.
+pub fn put_state(buf: &mut [u8], at: usize, module: u64, code: u64, time: u64) -> PositionAnswer
+    ensures { λ r. ⌜ Added (stateEntry «module» code time) (now (buf .entry)) at r (now (buf .exit)) ⌝ }
+{
+    if module / 0x40 + code / 0x20 + time / 0x8_0000_0000 > 0 {
+        return refused(22, 1);
+    }
+    let all = module * 0x400_0000_0000 + code * 0x20_0000_0000 + time * 4;
+    add(buf, at, 4, all / 0x1_0000, 2, all)
+}
+
+// Adds a standard.
+pub fn put_standard(
+    buf: &mut [u8],
+    at: usize,
+    recipe: u64,
+    start: u64,
+    theoretical: u64,
+) -> PositionAnswer
+    ensures { λ r. ⌜ Added (standardEntry recipe start theoretical) (now (buf .entry)) at r (now (buf .exit)) ⌝ }
+{
+    if recipe / 0x400 + start / 0x8_0000_0000 + theoretical / 0x800_0000 > 0 {
+        return refused(22, 2);
+    }
+    let first = recipe * 0x40_0000_0000_0000 + start * 0x8_0000 + theoretical / 0x100;
+    add(buf, at, 8, first, 1, theoretical)
+}
+
+// Adds a unit record.
+pub fn put_unit(
+    buf: &mut [u8],
+    at: usize,
+    module: u64,
+    recipe: u64,
+    time: u64,
+    actual: u64,
+    effective: u64,
+) -> PositionAnswer
+    ensures { λ r. ⌜ Added (unitEntry «module» recipe time actual effective) (now (buf .entry)) at r (now (buf .exit)) ⌝ }
+{
+    if module / 0x40
+        + recipe / 0x400
+        + time / 0x8_0000_0000
+        + actual / 0x1_0000
+        + effective / 0x1_0000
+        > 0
+    {
+        return refused(22, 3);
+    }
+    let first = module * 0x400_0000_0000_0000
+        + recipe * 0x1_0000_0000_0000
+        + time * 0x2000
+        + actual / 8;
+    let second = actual * 0x20_0000 + effective * 0x20;
+    add(buf, at, 8, first, 3, second)
+}
+
+// The reader's verdict on the bytes before a position.
+pub fn finish_log(buf: &[u8], at: usize) -> Verdict
+    ensures { λ r. ⌜ Finished (now (buf .entry)) at r ⌝ }
+{
+    if buf.len() < at {
+        return judging::refused(18, 0);
+    }
+    judging::judge_log(&buf[..at]).verdict
+}
