@@ -1,6 +1,6 @@
 -- From a log judged to what a call answers.
 -- Assumes nothing.
-use mathlib.Core.Path.{_≡_, refl, sym, ap, _∙_, subst}
+use mathlib.Core.Path.{_≡_, refl, sym, ap, _∙_}
 use mathlib.Core.Bool.{Bool, true, false}
 use mathlib.Core.List.{List}
 use Prim.Native.Nat.{ℕ, _+_, _≤_, _<_}
@@ -23,7 +23,8 @@ use Rattle.answering.specs.declared.StateTimesAnswer.the-variants as tim
 use Rattle.answering.specs.declared.QuantitiesAnswer.the-variants as quantities
 use Rattle.answering.specs.declared.FiguresAnswer.the-variants as figures
 use Rattle.judging.specs.Working.{Consistent, JudgedInto}
-use Rattle.answering.specs.Calls.{answerOf, Given, OnModule, of-log, stray}
+use Rattle.rules.proofs.Given.{Apart}
+use Rattle.answering.specs.Calls.{OnModule, of-log, stray}
 use Rattle.answering.specs.Summaries.{SummaryOf}
 use Rattle.judging.proofs.SumLaws.{sum-add, sum-same}
 use Rattle.judging.proofs.Accepted.{tool-ordered}
@@ -86,35 +87,6 @@ module _ (s : List ℕ) (v : Verdict) (T U A E : List ℕ) (j : JudgedInto s v T
         }
 
 -- ---- answers
-
--- an answer and a refusal are never equal, and equal ones hold equal things
-pub record Apart {A R : Type 0} (answered : A → R) (refused : Refusal → R) : Type 0 where
-  pub never : (a : A) (x : Refusal) → answered a ≡ refused x → ⊥
-  pub one-answer : (a b : A) → answered a ≡ answered b → a ≡ b
-  pub one-refusal : (x y : Refusal) → refused x ≡ refused y → x ≡ y
-
-module _ {A R : Type 0} {answered : A → R} {refused : Refusal → R} (apart : Apart answered refused) (v : Verdict) (a : A) (Promise : A → Type 0) (Allowed : Refusal → Type 0) where
-  pub given-refused : (x : Refusal) → v ≡ Refused x → Allowed x → Given answered refused v a Promise Allowed (refused x)
-  given-refused x e ok =
-      record {
-        answer = ap (λ (w : Verdict). answerOf answered refused w a) (sym e);
-        promise = λ b q. absurd (apart .never b x (sym q));
-        refusal = λ y q. subst Allowed (apart .one-refusal x y q) ok;
-      }
-
-  pub given-answered : (b : A) → v ≡ Accepted → b ≡ a → Promise a → Given answered refused v a Promise Allowed (answered b)
-  given-answered b e q ok =
-      record {
-        answer = ap answered q ∙ ap (λ (w : Verdict). answerOf answered refused w a) (sym e);
-        promise = λ c p. subst Promise (sym q ∙ apart .one-answer b c p) ok;
-        refusal = λ y p. absurd (apart .never b y p);
-      }
-
-  -- by an equation with another verdict and value, which are these
-  pub given-by : (w : Verdict) (b : A) (r : R) → r ≡ answerOf answered refused w b → w ≡ v → (w ≡ Accepted → b ≡ a) → (w ≡ Accepted → Promise a) → ((x : Refusal) → v ≡ Refused x → Allowed x)
-      → Given answered refused v a Promise Allowed r
-  given-by Accepted b r e q same ok known = subst (Given answered refused v a Promise Allowed) (sym e) (given-answered b (sym q) (same refl) (ok refl))
-  given-by (Refused x) b r e q same ok known = subst (Given answered refused v a Promise Allowed) (sym e) (given-refused x (sym q) (known x (sym q)))
 
 pub module-refusal : (s : List ℕ) (m : ℕ) (x : Refusal) → verdictOn s m ≡ Refused x → OnModule s m x
 unfolding verdictOn

@@ -8,29 +8,18 @@ use Rattle.e79.specs.Quantities.{Ordered}
 use Rattle.e79.specs.Doubles.{figuresOf}
 use Rattle.e79.specs.Accuracy.{Accurate}
 use Rattle.rules.specs.declared.Refusal.{Refusal}
-use Rattle.rules.specs.declared.Verdict.{Verdict}
 use Rattle.rules.specs.declared.Verdict.the-variants.{Accepted, Refused}
 use Rattle.rules.specs.Names.{noList}
 use Rattle.rules.specs.Quantities.{allTimes, moduleTimes, toolTimes, ofModule, ofTool}
 use Rattle.rules.specs.Verdict.{verdict, verdictOn}
 use Rattle.rules.specs.Refusals.{OfLog}
+use Rattle.rules.specs.Answers.{Given}
 use Rattle.answering.specs.declared.StateTimesAnswer.{StateTimesAnswer}
 use Rattle.answering.specs.declared.StateTimesAnswer.the-variants as times
 use Rattle.answering.specs.declared.QuantitiesAnswer.{QuantitiesAnswer}
 use Rattle.answering.specs.declared.QuantitiesAnswer.the-variants as quantities
 use Rattle.answering.specs.declared.FiguresAnswer.{FiguresAnswer}
 use Rattle.answering.specs.declared.FiguresAnswer.the-variants as figures
-
--- the value where the verdict accepts, else its refusal
-abbrev pub answerOf : {A R : Type 0} → (A → R) → (Refusal → R) → Verdict → A → R
-answerOf answered refused Accepted a = answered a
-answerOf answered refused (Refused x) a = refused x
-
--- r answers a verdict v and a value a; what is promised of a value handed out, and what a refusal may be
-pub record Given {A R : Type 0} (answered : A → R) (refused : Refusal → R) (v : Verdict) (a : A) (Promise : A → Type 0) (Allowed : Refusal → Type 0) (r : R) : Type 0 where
-  pub answer : r ≡ answerOf answered refused v a
-  pub promise : (b : A) → r ≡ answered b → Promise b
-  pub refusal : (x : Refusal) → r ≡ refused x → Allowed x
 
 -- a call about module m: a refusal of the log, or 7 with list 0, for a module that an accepted log does not have
 pub data OnModule (s : List ℕ) (m : ℕ) (x : Refusal) : Type 0 where

@@ -2,7 +2,8 @@
 ghost use mathlib.Core.Path.{_≡_};
 ghost use Rattle.e79.specs.Quantities.{Ordered};
 ghost use Rattle.e79.specs.Doubles.{figuresOf};
-ghost use Rattle.answering.specs.Calls.{answerOf, ModuleTimes, ToolTimes, ModuleQuantities, ToolQuantities, ModuleFigures, ToolFigures};
+ghost use Rattle.rules.specs.Answers.{answerOf};
+ghost use Rattle.answering.specs.Calls.{ModuleTimes, ToolTimes, ModuleQuantities, ToolQuantities, ModuleFigures, ToolFigures};
 ghost use Rattle.answering.specs.Summaries.{ModuleSummary, ToolSummary};
 use e79::Figures;
 use e79::Quantities;

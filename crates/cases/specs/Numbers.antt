@@ -14,7 +14,7 @@ use Rattle.records.specs.Log.{decode}
 use Rattle.rules.specs.declared.Refusal.{Refusal}
 use Rattle.rules.specs.Quantities.{moduleTimes, toolTimes, ofModule, ofTool}
 use Rattle.rules.specs.Verdict.{verdict, verdictOn}
-use Rattle.answering.specs.Calls.{answerOf}
+use Rattle.rules.specs.Answers.{answerOf}
 use Rattle.answering.specs.declared.StateTimesAnswer.{StateTimesAnswer}
 use Rattle.answering.specs.declared.StateTimesAnswer.the-variants as times
 use Rattle.answering.specs.declared.QuantitiesAnswer.{QuantitiesAnswer}

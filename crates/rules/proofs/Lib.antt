@@ -8,3 +8,4 @@ pub mod Keys
 pub mod Spared
 pub mod Risen
 pub mod SameBytes
+pub mod Given

@@ -1,6 +1,6 @@
 -- The first ground met: how tests are put in sequence.
 -- Definitions only.
-use Prim.Native.Nat.{ℕ, zero, suc, _+_}
+use Prim.Native.Nat.{ℕ, zero, suc}
 use mathlib.Core.Bool.{Bool, true, false}
 use mathlib.Core.List.{List, [], _∷_, _++_}
 use Rattle.rules.specs.declared.Verdict.{Verdict}

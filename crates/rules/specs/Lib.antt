@@ -9,3 +9,4 @@ pub mod Quantities
 pub mod Verdict
 pub mod Refusals
 pub mod SameRecords
+pub mod Answers

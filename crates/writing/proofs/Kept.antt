@@ -17,7 +17,9 @@ use Rattle.rules.specs.declared.Verdict.{Verdict}
 use Rattle.rules.specs.declared.Verdict.the-variants.{Accepted, Refused}
 use Rattle.rules.specs.Grounds.{ground}
 use Rattle.rules.proofs.FirstGround.{then-left, then-right, not-met}
-use Rattle.writing.specs.Writing.{Entry, entryBytes, anyTooWide, addVerdict, ifAccepted, answerOf, addAnswer, addBuffer}
+use Rattle.rules.specs.Answers.{answerOf}
+use Rattle.writing.specs.declared.PositionAnswer.the-variants as position
+use Rattle.writing.specs.Writing.{Entry, entryBytes, anyTooWide, addVerdict, ifAccepted, addAnswer, addBuffer}
 use Rattle.writing.specs.Runs.{Run, handedBack, counted, call, run, Kept}
 use Rattle.writing.proofs.Fitting.{fits, none-too-wide}
 
@@ -68,7 +70,7 @@ by-verdict w e = go (addVerdict e (length (w .buffer)) (w .position))
   where
     left : Verdict → Run
     left v =
-        let r = answerOf v (w .position + e .size) in
+        let r = answerOf position.Answered position.Refused v (w .position + e .size) in
         record { buffer = ifAccepted v (written (w .buffer) (w .position) (entryBytes e)) (w .buffer); position = handedBack r (w .position); added = counted r (w .added) e }
 
     go : (v : Verdict) → left v ≡ ifAccepted v (onward w e) w

@@ -7,21 +7,23 @@ use Prim.Native.Nat.{ℕ, _+_, _≤_, _<_}
 use native.Mathlib.Omega.{arith}
 use lib.Dec.{ltb}
 use lib.ListN.{length, take}
-use borrow.Author.Tests.{lt-ltb, le-ltb, ltb-true}
+use borrow.Author.Tests.{lt-ltb, le-ltb, ltb-true, ltb-false}
 use Rattle.bits.specs.Put.{Fit}
 use Rattle.bits.proofs.Puts.{length-packed}
 use Rattle.filling.specs.Buffer.{written, Put}
 use Rattle.rules.specs.declared.Refusal.{Refusal}
 use Rattle.rules.specs.declared.Verdict.{Verdict}
 use Rattle.rules.specs.declared.Verdict.the-variants.{Refused}
-use Rattle.rules.specs.Grounds.{ground}
+use Rattle.rules.specs.Grounds.{ground, _then_}
+use Rattle.rules.proofs.FirstGround.{refused-not, not-met}
+use Rattle.rules.proofs.Given.{Apart, given-by}
 use Rattle.rules.specs.Verdict.{verdict}
 use Rattle.rules.proofs.KnownRefusals.{log-refusal}
 use Rattle.writing.specs.declared.PositionAnswer.{PositionAnswer}
 use Rattle.writing.specs.declared.PositionAnswer.the-variants as position
-use Rattle.writing.specs.Writing.{Entry, entryBytes, addVerdict, ifAccepted, answerOf, addAnswer, addBuffer, OfAdding, Added, finishVerdict, OfFinishing, Finished}
+use Rattle.writing.specs.Writing.{Entry, entryBytes, anyTooWide, addVerdict, ifAccepted, addBuffer, OfAdding, Added, finishVerdict, OfFinishing, Finished}
 use Rattle.writing.specs.Storing.{roomVerdict, Stored}
-use Rattle.writing.proofs.Fitting.{excess, wide-excess, none-too-wide}
+use Rattle.writing.proofs.Fitting.{excess, fits, wide-excess, none-too-wide}
 
 -- ---- where every value fits
 
@@ -34,39 +36,46 @@ module _ (bytes before : List ℕ) (at : ℕ) where
 
 -- ---- the call
 
-refused-same : {x y : Refusal} → position.Refused x ≡ position.Refused y → y ≡ x
-refused-same e = cc
-
-answered-not : {n : ℕ} {x : Refusal} → position.Answered n ≡ position.Refused x → ⊥
-answered-not e = let z : _≡_ {A = ℕ} 0 1 = cc in omega arith
+position-apart : Apart position.Answered position.Refused
+position-apart =
+    record {
+      never = λ n x e. let z : _≡_ {A = ℕ} 0 1 = cc in omega arith;
+      one-answer = λ m n e. cc;
+      one-refusal = λ x y e. cc;
+    }
 
 module _ (e : Entry) (before : List ℕ) (at : ℕ) where
+  adding-refusal : (x : Refusal) → addVerdict e (length before) at ≡ Refused x → OfAdding e (length before) at x
+  unfolding addVerdict
+  adding-refusal x h = go (anyTooWide (e .slots)) refl (ltb (length before) (at + e .size)) refl h
+    where
+      go : (w : Bool) → anyTooWide (e .slots) ≡ w → (b : Bool) → ltb (length before) (at + e .size) ≡ b → ground 22 (e .list) 0 w then ground 18 0 0 b ≡ Refused x → OfAdding e (length before) at x
+      go true p b q m = OfAdding.too-wide p (cc)
+      go false p true q m = OfAdding.no-room (fits (e .slots) p) (ltb-true (length before) (at + e .size) q) (cc)
+      go false p false q m = absurd (refused-not (sym m))
+
   -- what is above the fields is more than nothing
   pub not-added : (r : PositionAnswer) → 0 < excess (e .slots) → r ≡ position.Refused (record { number = 22; list = e .list; place = 0 }) → Added e before at r before
-  unfolding addVerdict addAnswer addBuffer
+  unfolding addVerdict addBuffer
   not-added r h q =
       let wide = wide-excess (e .slots) h in
       record {
-        answer = rw wide q;
+        given = given-by position-apart _ _ _ _ (Refused (record { number = 22; list = e .list; place = 0 })) (at + e .size) r q (rw wide) (λ a. refl) (λ a. absurd (refused-not a)) adding-refusal;
         bytes = rw wide;
-        refusal = λ x m. OfAdding.too-wide wide (refused-same (sym q ∙ m));
       }
 
   -- it is nothing, and the record's bytes are stored
   pub added : (bytes : List ℕ) (r : PositionAnswer) (after : List ℕ) → Fit (e .slots) → entryBytes e ≡ bytes → Stored bytes before at r after → Added e before at r after
-  unfolding addVerdict addAnswer addBuffer
+  unfolding addVerdict addBuffer
   added bytes r after fit same s =
       let none = none-too-wide (e .slots) fit in
       let size : length bytes ≡ e .size = ap length (sym same) ∙ length-packed (e .size) (e .slots) in
       record {
-        answer = s .answer ∙ ap (λ (n : ℕ). answerOf (roomVerdict (length before) at n) (at + n)) size ∙ rw none;
+        given = given-by position-apart _ _ _ _ (roomVerdict (length before) at (length bytes)) (at + length bytes) r (s .answer) (rw (none, size)) (λ a. ap (λ (n : ℕ). at + n) size)
+            (λ a. rw size at (ltb-false (length before) (at + length bytes) (not-met 18 0 0 (ltb (length before) (at + length bytes)) a)))
+            adding-refusal;
         bytes = s .left ∙ ap (λ (n : ℕ). ifAccepted (roomVerdict (length before) at n) (written before at bytes) before) size ∙ rw (none, same);
-        refusal = λ x m. why (ltb (length before) (at + e .size)) refl x (sym (s .answer ∙ ap (λ (n : ℕ). answerOf (roomVerdict (length before) at n) (at + n)) size) ∙ m);
       }
-    where
-      why : (b : Bool) → ltb (length before) (at + e .size) ≡ b → (x : Refusal) → answerOf (ground 18 0 0 b) (at + e .size) ≡ position.Refused x → OfAdding e (length before) at x
-      why true h x m = OfAdding.no-room fit (ltb-true (length before) (at + e .size) h) (refused-same m)
-      why false h x m = absurd (answered-not m)
 
 -- ---- the finishing call
 

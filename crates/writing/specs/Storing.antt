@@ -9,12 +9,14 @@ use Rattle.filling.specs.Buffer.{written}
 use Rattle.rules.specs.declared.Verdict.{Verdict}
 use Rattle.rules.specs.Grounds.{ground}
 use Rattle.rules.specs.Names.{noList}
+use Rattle.rules.specs.Answers.{answerOf}
 use Rattle.writing.specs.declared.PositionAnswer.{PositionAnswer}
-use Rattle.writing.specs.Writing.{ifAccepted, answerOf}
+use Rattle.writing.specs.declared.PositionAnswer.the-variants as position
+use Rattle.writing.specs.Writing.{ifAccepted}
 
 abbrev pub roomVerdict : ℕ → ℕ → ℕ → Verdict
 roomVerdict room at size = ground 18 noList 0 (ltb room (at + size))
 
 pub record Stored (bytes before : List ℕ) (at : ℕ) (r : PositionAnswer) (after : List ℕ) : Type 0 where
-  pub answer : r ≡ answerOf (roomVerdict (length before) at (length bytes)) (at + length bytes)
+  pub answer : r ≡ answerOf position.Answered position.Refused (roomVerdict (length before) at (length bytes)) (at + length bytes)
   pub left : after ≡ ifAccepted (roomVerdict (length before) at (length bytes)) (written before at bytes) before

@@ -3,7 +3,7 @@
 use mathlib.Core.Path.{_≡_}
 use mathlib.Core.Bool.{Bool, true, false, _||_}
 use mathlib.Core.List.{List, [], _∷_}
-use Prim.Native.Nat.{ℕ, _+_, _^_, _<_}
+use Prim.Native.Nat.{ℕ, _+_, _^_, _≤_, _<_}
 use lib.Dec.{leb, ltb}
 use lib.ListN.{length, take}
 use Rattle.bits.specs.Put.{Slot, packed, Fit}
@@ -16,6 +16,7 @@ use Rattle.rules.specs.Grounds.{ground, _then_}
 use Rattle.rules.specs.Names.{noList, ofStates, ofStandards, ofUnits}
 use Rattle.rules.specs.Verdict.{verdict}
 use Rattle.rules.specs.Refusals.{OfLog}
+use Rattle.rules.specs.Answers.{answerOf, Given}
 use Rattle.writing.specs.declared.PositionAnswer.{PositionAnswer}
 use Rattle.writing.specs.declared.PositionAnswer.the-variants as position
 
@@ -70,14 +71,10 @@ abbrev pub ifAccepted : {A : Type 0} → Verdict → A → A → A
 ifAccepted Accepted a b = a
 ifAccepted (Refused x) a b = b
 
-abbrev pub answerOf : Verdict → ℕ → PositionAnswer
-answerOf Accepted next = position.Answered next
-answerOf (Refused x) next = position.Refused x
-
 -- what a call that adds e at a position answers: the position behind the record, or the refusal
 unfoldable pub addAnswer : Entry → List ℕ → ℕ → PositionAnswer
 unfolding addVerdict
-addAnswer e before at = answerOf (addVerdict e (length before) at) (at + e .size)
+addAnswer e before at = answerOf position.Answered position.Refused (addVerdict e (length before) at) (at + e .size)
 
 -- and what it leaves: the buffer with the record's bytes at the position, or as it was
 unfoldable pub addBuffer : Entry → List ℕ → ℕ → List ℕ
@@ -89,11 +86,10 @@ pub data OfAdding (e : Entry) (room at : ℕ) (x : Refusal) : Type 0 where
   too-wide : anyTooWide (e .slots) ≡ true → x ≡ record { number = 22; list = e .list; place = 0 } → OfAdding e room at x
   no-room : Fit (e .slots) → room < at + e .size → x ≡ record { number = 18; list = noList; place = 0 } → OfAdding e room at x
 
--- the contract of each adding call
+-- the contract of each adding call: the position that it hands back is in the buffer or at its end
 pub record Added (e : Entry) (before : List ℕ) (at : ℕ) (r : PositionAnswer) (after : List ℕ) : Type 0 where
-  pub answer : r ≡ addAnswer e before at
+  pub given : Given position.Answered position.Refused (addVerdict e (length before) at) (at + e .size) (λ next. next ≤ length before) (OfAdding e (length before) at) r
   pub bytes : after ≡ addBuffer e before at
-  pub refusal : (x : Refusal) → r ≡ position.Refused x → OfAdding e (length before) at x
 
 -- ---- the finishing call
 

@@ -9,7 +9,8 @@ use Rattle.e79.proofs.Products.{accurate}
 use Rattle.rules.specs.Quantities.{ofModule}
 use Rattle.rules.specs.Verdict.{verdictOn}
 use Rattle.answering.specs.Calls.{OnModule}
-use Rattle.answering.proofs.Answers.{figures-apart, given-by, module-refusal}
+use Rattle.rules.proofs.Given.{given-by}
+use Rattle.answering.proofs.Answers.{figures-apart, module-refusal}
 use Rattle.answering.proofs.module_figures.Statement.{statement}
 use Rattle.answering.proofs.module_figures.Tie as tie
 

@@ -6,7 +6,8 @@ use Rattle.e79.specs.Quantities.{Ordered}
 use Rattle.rules.specs.Quantities.{ofModule}
 use Rattle.rules.specs.Verdict.{verdictOn}
 use Rattle.answering.specs.Calls.{OnModule}
-use Rattle.answering.proofs.Answers.{quantities-apart, given-by, module-refusal}
+use Rattle.rules.proofs.Given.{given-by}
+use Rattle.answering.proofs.Answers.{quantities-apart, module-refusal}
 use Rattle.answering.proofs.module_quantities.Statement.{statement}
 use Rattle.answering.proofs.module_quantities.Tie as tie
 

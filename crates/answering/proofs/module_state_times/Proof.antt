@@ -6,7 +6,8 @@ use Rattle.records.specs.Log.{decode}
 use Rattle.rules.specs.Quantities.{allTimes, moduleTimes}
 use Rattle.rules.specs.Verdict.{verdictOn}
 use Rattle.answering.specs.Calls.{OnModule}
-use Rattle.answering.proofs.Answers.{times-apart, given-by, module-refusal}
+use Rattle.rules.proofs.Given.{given-by}
+use Rattle.answering.proofs.Answers.{times-apart, module-refusal}
 use Rattle.answering.proofs.module_state_times.Statement.{statement}
 use Rattle.answering.proofs.module_state_times.Tie as tie
 

@@ -10,7 +10,8 @@ use Rattle.rules.specs.Quantities.{ofTool}
 use Rattle.rules.specs.Verdict.{verdict}
 use Rattle.rules.specs.Refusals.{OfLog}
 use Rattle.rules.proofs.KnownRefusals.{log-refusal}
-use Rattle.answering.proofs.Answers.{figures-apart, given-by}
+use Rattle.rules.proofs.Given.{given-by}
+use Rattle.answering.proofs.Answers.{figures-apart}
 use Rattle.answering.proofs.tool_figures.Statement.{statement}
 use Rattle.answering.proofs.tool_figures.Tie as tie
 

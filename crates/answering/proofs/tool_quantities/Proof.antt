@@ -7,7 +7,8 @@ use Rattle.rules.specs.Quantities.{ofTool}
 use Rattle.rules.specs.Verdict.{verdict}
 use Rattle.rules.specs.Refusals.{OfLog}
 use Rattle.rules.proofs.KnownRefusals.{log-refusal}
-use Rattle.answering.proofs.Answers.{quantities-apart, given-by}
+use Rattle.rules.proofs.Given.{given-by}
+use Rattle.answering.proofs.Answers.{quantities-apart}
 use Rattle.answering.proofs.tool_quantities.Statement.{statement}
 use Rattle.answering.proofs.tool_quantities.Tie as tie
 

@@ -7,7 +7,8 @@ use Rattle.rules.specs.Quantities.{allTimes, toolTimes, ofTool}
 use Rattle.rules.specs.Verdict.{verdict}
 use Rattle.rules.specs.Refusals.{OfLog}
 use Rattle.rules.proofs.KnownRefusals.{log-refusal}
-use Rattle.answering.proofs.Answers.{times-apart, given-by}
+use Rattle.rules.proofs.Given.{given-by}
+use Rattle.answering.proofs.Answers.{times-apart}
 use Rattle.answering.proofs.tool_state_times.Statement.{statement}
 use Rattle.answering.proofs.tool_state_times.Tie as tie
 
