@@ -1,6 +1,6 @@
 -- What an answer of `tool_log` says: its verdict, and what it makes of an array's content.
 -- Definitions only.
-use mathlib.Core.List.{List}
+use mathlib.Core.List.{List, [], _∷_}
 use Prim.Native.Nat.{ℕ}
 use lib.Ieee.{Float}
 use Rattle.rules.specs.declared.Verdict.{Verdict}
@@ -11,6 +11,8 @@ use Rattle.answering.specs.declared.QuantitiesAnswer.{QuantitiesAnswer}
 use Rattle.answering.specs.declared.QuantitiesAnswer.the-variants as quantities
 use Rattle.answering.specs.declared.FiguresAnswer.{FiguresAnswer}
 use Rattle.answering.specs.declared.FiguresAnswer.the-variants as figures
+use Rattle.writing.specs.declared.PositionAnswer.{PositionAnswer}
+use Rattle.writing.specs.declared.PositionAnswer.the-variants as position
 use Rattle.rules.specs.Quantities.{timesOf, quantitiesOf}
 use Rattle.telling.specs.Arrays.{ratiosOf, basesOf}
 
@@ -47,3 +49,13 @@ ratiosAfter (figures.Refused x) before = before
 abbrev pub basesAfter : FiguresAnswer → List ℕ → List ℕ
 basesAfter (figures.Answered f) before = basesOf f
 basesAfter (figures.Refused x) before = before
+
+-- ---- positions
+
+abbrev pub positionVerdict : PositionAnswer → Verdict
+positionVerdict (position.Answered next) = verdict.Accepted
+positionVerdict (position.Refused x) = verdict.Refused x
+
+abbrev pub nextAfter : PositionAnswer → List ℕ → List ℕ
+nextAfter (position.Answered next) before = next ∷ []
+nextAfter (position.Refused x) before = before

@@ -4,7 +4,7 @@ ghost use lib.Ieee.{nan};
 ghost use Rattle.rules.specs.Quantities.{timesOf, quantitiesOf};
 ghost use Rattle.telling.specs.Arrays.{ratioOf, baseOf, ratiosOf, basesOf};
 ghost use Rattle.telling.specs.Told.{Told};
-ghost use Rattle.telling.specs.Answers.{timesVerdict, timesAfter, quantitiesVerdict, quantitiesAfter, figuresVerdict, ratiosAfter, basesAfter};
+ghost use Rattle.telling.specs.Answers.{timesVerdict, timesAfter, quantitiesVerdict, quantitiesAfter, figuresVerdict, ratiosAfter, basesAfter, positionVerdict, nextAfter};
 use answering::FiguresAnswer;
 use answering::QuantitiesAnswer;
 use answering::StateTimesAnswer;
@@ -13,6 +13,7 @@ use e79::Figures;
 use e79::Quantities;
 use rules::StateTimes;
 use rules::Verdict;
+use writing::PositionAnswer;
 
 // 1 where the verdict accepts, else 0; and the refusal's array.
 pub fn tell(verdict: Verdict, refusal: &mut [u64; 3]) -> u32
@@ -153,5 +154,18 @@ pub fn tell_figures(
             tell(Verdict::Accepted, refusal)
         }
         FiguresAnswer::Refused(x) => tell(Verdict::Refused(x), refusal),
+    }
+}
+
+pub fn tell_position(answer: PositionAnswer, next: &mut [u64; 1], refusal: &mut [u64; 3]) -> u32
+    ensures { λ r. ⌜ Told (positionVerdict answer) r (now (refusal .exit)) ⌝ }
+    ensures { λ _. ⌜ now (next .exit) ≡ nextAfter answer (now (next .entry)) ⌝ }
+{
+    match answer {
+        PositionAnswer::Answered(position) => {
+            *next = [position as u64];
+            tell(Verdict::Accepted, refusal)
+        }
+        PositionAnswer::Refused(x) => tell(Verdict::Refused(x), refusal),
     }
 }

@@ -24,3 +24,11 @@ pub use card::words_of;
 pub use printing::Table;
 pub use printing::print_table;
 pub use printing::print_words;
+
+// A log written record by record, and the test of what was written.
+pub use writing::PositionAnswer;
+pub use writing::finish_log;
+pub use writing::put_header;
+pub use writing::put_standard;
+pub use writing::put_state;
+pub use writing::put_unit;

@@ -1,7 +1,7 @@
 -- From what a call of `tool_log` answers to what its C function hands over.
 -- Assumes nothing.
 use mathlib.Core.Path.{_≡_, refl, ap, _∙_, subst}
-use mathlib.Core.List.{List}
+use mathlib.Core.List.{List, [], _∷_}
 use Prim.Native.Nat.{ℕ}
 use lib.Ieee.{Float}
 use Rattle.e79.specs.declared.Quantities.{Quantities}
@@ -17,13 +17,14 @@ use Rattle.answering.specs.declared.QuantitiesAnswer.{QuantitiesAnswer}
 use Rattle.answering.specs.declared.QuantitiesAnswer.the-variants as quantities
 use Rattle.answering.specs.declared.FiguresAnswer.{FiguresAnswer}
 use Rattle.answering.specs.declared.FiguresAnswer.the-variants as figures
-use Rattle.answering.specs.Calls.{answerOf, Given}
-use Rattle.reporting.specs.Reports as reports
+use Rattle.rules.specs.Answers.{answerOf, Given}
+use Rattle.writing.specs.declared.PositionAnswer.{PositionAnswer}
+use Rattle.writing.specs.Writing.{Entry, Added}
 use Rattle.rules.specs.Quantities.{timesOf, quantitiesOf}
 use Rattle.telling.specs.Arrays.{ratiosOf, basesOf}
 use Rattle.telling.specs.Told.{answerOr, Told}
-use Rattle.telling.specs.Answers.{timesVerdict, timesAfter, quantitiesVerdict, quantitiesAfter, figuresVerdict, ratiosAfter, basesAfter}
-use Rattle.tool_log_c.specs.Calls.{Promised, TellsVerdict, TellsNumbers, TellsDoubles}
+use Rattle.telling.specs.Answers.{timesVerdict, timesAfter, quantitiesVerdict, quantitiesAfter, figuresVerdict, ratiosAfter, basesAfter, positionVerdict, nextAfter}
+use Rattle.tool_log_c.specs.Calls.{Promised, Tells, TellsNumbers, TellsDoubles, TellsAdding}
 
 -- ---- for every kind of answer
 
@@ -58,27 +59,29 @@ module _ {A R : Type 0} {answered : A → R} {refused : Refusal → R} {v : Verd
 
 -- ---- the calls
 
-pub examined : {s : List ℕ} {room : ℕ} {w : Verdict} {r : ℕ} {refusal : List ℕ} → reports.Examined s room w → Told w r refusal → TellsVerdict s room r refusal
-examined g t = record { told = told-of (g .answer) t; known = λ x p. g .refusal x (g .answer ∙ p) }
+pub told-as : {v w : Verdict} {Allowed : Refusal → Type 0} {r : ℕ} {refusal : List ℕ} → w ≡ v → ((x : Refusal) → w ≡ Refused x → Allowed x) → Told w r refusal → Tells v Allowed r refusal
+told-as e known t = record { told = told-of e t; known = λ x p. known x (e ∙ p) }
 
 module _ {v : Verdict} {Allowed : Refusal → Type 0} {flag : ℕ} {refusal : List ℕ} where
-  pub times-told : {t : StateTimes} {Promise : StateTimes → Type 0} {r : StateTimesAnswer} {before after : List ℕ} → Given times.Answered times.Refused v t Promise Allowed r
-      → Told (timesVerdict r) flag refusal → after ≡ timesAfter r before → TellsNumbers v (timesOf t) before (Promise t) Allowed flag after refusal
-  times-told {before = before} g t e =
+  -- whole numbers, for every kind of answer
+  numbers-told : {A R : Type 0} {answered : A → R} {refused : Refusal → R} {a : A} {Promise : A → Type 0} {r : R} {before after : List ℕ} (g : Given answered refused v a Promise Allowed r)
+      (read : R → Verdict) (put : R → List ℕ → List ℕ) (f : A → List ℕ) → ((b : A) → read (answered b) ≡ Accepted) → ((x : Refusal) → read (refused x) ≡ Refused x)
+      → ((b : A) → put (answered b) before ≡ f b) → ((x : Refusal) → put (refused x) before ≡ before)
+      → Told (read r) flag refusal → after ≡ put r before → TellsNumbers v (f a) before (Promise a) Allowed flag after refusal
+  numbers-told {before = before} g read put f ra rr pa pr t e =
       record {
-        told = told-of (verdict-in g timesVerdict (λ b. refl) (λ x. refl)) t;
-        array = e ∙ after-in g timesAfter timesOf before (λ b. refl) (λ x. refl);
+        told = told-of (verdict-in g read ra rr) t;
+        array = e ∙ after-in g put f before pa pr;
         known = promised g;
       }
+
+  pub times-told : {t : StateTimes} {Promise : StateTimes → Type 0} {r : StateTimesAnswer} {before after : List ℕ} → Given times.Answered times.Refused v t Promise Allowed r
+      → Told (timesVerdict r) flag refusal → after ≡ timesAfter r before → TellsNumbers v (timesOf t) before (Promise t) Allowed flag after refusal
+  times-told g t e = numbers-told g timesVerdict timesAfter timesOf (λ b. refl) (λ x. refl) (λ b. refl) (λ x. refl) t e
 
   pub quantities-told : {q : Quantities} {Promise : Quantities → Type 0} {r : QuantitiesAnswer} {before after : List ℕ} → Given quantities.Answered quantities.Refused v q Promise Allowed r
       → Told (quantitiesVerdict r) flag refusal → after ≡ quantitiesAfter r before → TellsNumbers v (quantitiesOf q) before (Promise q) Allowed flag after refusal
-  quantities-told {before = before} g t e =
-      record {
-        told = told-of (verdict-in g quantitiesVerdict (λ b. refl) (λ x. refl)) t;
-        array = e ∙ after-in g quantitiesAfter quantitiesOf before (λ b. refl) (λ x. refl);
-        known = promised g;
-      }
+  quantities-told g t e = numbers-told g quantitiesVerdict quantitiesAfter quantitiesOf (λ b. refl) (λ x. refl) (λ b. refl) (λ x. refl) t e
 
   pub figures-told : {q : Quantities} {r : FiguresAnswer} {before after : List Float} {basedBefore based : List ℕ} → Given figures.Answered figures.Refused v (figuresOf q) (Accurate q) Allowed r
       → Told (figuresVerdict r) flag refusal → after ≡ ratiosAfter r before → based ≡ basesAfter r basedBefore → TellsDoubles v q before basedBefore Allowed flag after based refusal
@@ -89,3 +92,12 @@ module _ {v : Verdict} {Allowed : Refusal → Type 0} {flag : ℕ} {refusal : Li
         bases = b ∙ after-in g basesAfter basesOf basedBefore (λ b. refl) (λ x. refl);
         known = promised g;
       }
+
+-- an adding call
+pub adding-told : {e : Entry} {before after : List ℕ} {at flag : ℕ} {nextBefore next refusal : List ℕ} {r : PositionAnswer} → Added e before at r after → Told (positionVerdict r) flag refusal
+    → next ≡ nextAfter r nextBefore → TellsAdding e before at nextBefore flag after next refusal
+adding-told a t e =
+    record {
+      told = numbers-told (a .given) positionVerdict nextAfter (λ n. n ∷ []) (λ b. refl) (λ x. refl) (λ b. refl) (λ x. refl) t e;
+      bytes = a .bytes;
+    }

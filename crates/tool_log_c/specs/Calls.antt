@@ -1,8 +1,9 @@
 -- What each C function does: its flag, and what the caller's arrays hold in the end, for the verdict and the values that `tool_log` answers.
 -- Definitions only.
 use mathlib.Core.Path.{_≡_}
-use mathlib.Core.List.{List}
-use Prim.Native.Nat.{ℕ}
+use mathlib.Core.List.{List, [], _∷_}
+use Prim.Native.Nat.{ℕ, _+_, _≤_}
+use lib.ListN.{length}
 use lib.Ieee.{Float}
 use Rattle.records.specs.Log.{decode}
 use Rattle.e79.specs.declared.Quantities.{Quantities}
@@ -17,6 +18,7 @@ use Rattle.rules.specs.Verdict.{verdict, verdictOn}
 use Rattle.answering.specs.Calls.{OnModule}
 use Rattle.rules.specs.Refusals.{OfLog}
 use Rattle.reporting.specs.Reports.{verdictFor, ForRoom}
+use Rattle.writing.specs.Writing.{Entry, addVerdict, addBuffer, OfAdding, finishVerdict, OfFinishing}
 use Rattle.telling.specs.Arrays.{ratiosOf, basesOf}
 use Rattle.telling.specs.Told.{answerOr, Told}
 
@@ -25,11 +27,15 @@ pub record Promised (v : Verdict) (Promise : Type 0) (Allowed : Refusal → Type
   pub promise : v ≡ Accepted → Promise
   pub refusal : (x : Refusal) → v ≡ Refused x → Allowed x
 
--- ---- the verdict for a buffer
+-- ---- a verdict
 
-pub record TellsVerdict (s : List ℕ) (room r : ℕ) (refusal : List ℕ) : Type 0 where
-  pub told : Told (verdictFor s room) r refusal
-  pub known : (x : Refusal) → verdictFor s room ≡ Refused x → ForRoom s room x
+pub record Tells (v : Verdict) (Allowed : Refusal → Type 0) (r : ℕ) (refusal : List ℕ) : Type 0 where
+  pub told : Told v r refusal
+  pub known : (x : Refusal) → v ≡ Refused x → Allowed x
+
+-- the one for a buffer
+abbrev pub TellsVerdict : List ℕ → ℕ → ℕ → List ℕ → Type 0
+TellsVerdict s room r refusal = Tells (verdictFor s room) (ForRoom s room) r refusal
 
 -- ---- whole numbers
 
@@ -77,3 +83,13 @@ TellsModuleFigures s m before basedBefore r after based refusal =
 abbrev pub TellsToolFigures : List ℕ → List Float → List ℕ → ℕ → List Float → List ℕ → List ℕ → Type 0
 TellsToolFigures s before basedBefore r after based refusal =
     TellsDoubles (verdict s) (ofTool (decode s)) before basedBefore (OfLog s) r after based refusal
+
+-- ---- writing
+
+-- the position behind the record, and all of the buffer's bytes
+pub record TellsAdding (e : Entry) (before : List ℕ) (at : ℕ) (nextBefore : List ℕ) (r : ℕ) (after next refusal : List ℕ) : Type 0 where
+  pub told : TellsNumbers (addVerdict e (length before) at) ((at + e .size) ∷ []) nextBefore (at + e .size ≤ length before) (OfAdding e (length before) at) r next refusal
+  pub bytes : after ≡ addBuffer e before at
+
+abbrev pub TellsFinishing : List ℕ → ℕ → ℕ → List ℕ → Type 0
+TellsFinishing buf at r refusal = Tells (finishVerdict buf at) (OfFinishing buf at) r refusal

@@ -1,6 +1,7 @@
 // What a dashboard links: the calls of `tool_log` as C functions. None has a `requires`, and each array that a caller lends has a fixed size.
 ghost use Rattle.reporting.specs.Reports.{Written};
-ghost use Rattle.tool_log_c.specs.Calls.{TellsVerdict, TellsModuleTimes, TellsToolTimes, TellsModuleQuantities, TellsToolQuantities, TellsModuleFigures, TellsToolFigures};
+ghost use Rattle.tool_log_c.specs.Calls.{TellsVerdict, TellsModuleTimes, TellsToolTimes, TellsModuleQuantities, TellsToolQuantities, TellsModuleFigures, TellsToolFigures, TellsAdding, TellsFinishing};
+ghost use Rattle.writing.specs.Writing.{headerEntry, stateEntry, standardEntry, unitEntry};
 
 // ---- the verdict and the report
 
@@ -98,4 +99,98 @@ pub extern "C" fn tl_tool_figures(
     ensures { λ r. ⌜ TellsToolFigures (now (log .entry)) (now (figures .entry)) (now (based .entry)) r (now (figures .exit)) (now (based .exit)) (now (refusal .exit)) ⌝ }
 {
     telling::tell_figures(tool_log::tool_figures(log), figures, based, refusal)
+}
+
+// ---- writing a log
+
+// Adds a header to the buffer.
+#[no_mangle]
+pub extern "C" fn tl_put_header(
+    buf: &mut [u8],
+    at: usize,
+    period: u64,
+    modules: u64,
+    states: u64,
+    standards: u64,
+    units: u64,
+    next: &mut [u64; 1],
+    refusal: &mut [u64; 3],
+) -> u32
+    ensures { λ r. ⌜ TellsAdding (headerEntry period modules states standards units) (now (buf .entry)) at (now (next .entry)) r (now (buf .exit)) (now (next .exit)) (now (refusal .exit)) ⌝ }
+{
+    telling::tell_position(
+        tool_log::put_header(buf, at, period, modules, states, standards, units),
+        next,
+        refusal,
+    )
+}
+
+// A state record.
+#[no_mangle]
+pub extern "C" fn tl_put_state(
+    buf: &mut [u8],
+    at: usize,
+    module: u64,
+    code: u64,
+    time: u64,
+    next: &mut [u64; 1],
+    refusal: &mut [u64; 3],
+) -> u32
+    ensures { λ r. ⌜ TellsAdding (stateEntry «module» code time) (now (buf .entry)) at (now (next .entry)) r (now (buf .exit)) (now (next .exit)) (now (refusal .exit)) ⌝ }
+{
+    telling::tell_position(
+        tool_log::put_state(buf, at, module, code, time),
+        next,
+        refusal,
+    )
+}
+
+// A standard.
+#[no_mangle]
+pub extern "C" fn tl_put_standard(
+    buf: &mut [u8],
+    at: usize,
+    recipe: u64,
+    start: u64,
+    theoretical: u64,
+    next: &mut [u64; 1],
+    refusal: &mut [u64; 3],
+) -> u32
+    ensures { λ r. ⌜ TellsAdding (standardEntry recipe start theoretical) (now (buf .entry)) at (now (next .entry)) r (now (buf .exit)) (now (next .exit)) (now (refusal .exit)) ⌝ }
+{
+    telling::tell_position(
+        tool_log::put_standard(buf, at, recipe, start, theoretical),
+        next,
+        refusal,
+    )
+}
+
+// A unit record.
+#[no_mangle]
+pub extern "C" fn tl_put_unit(
+    buf: &mut [u8],
+    at: usize,
+    module: u64,
+    recipe: u64,
+    time: u64,
+    actual: u64,
+    effective: u64,
+    next: &mut [u64; 1],
+    refusal: &mut [u64; 3],
+) -> u32
+    ensures { λ r. ⌜ TellsAdding (unitEntry «module» recipe time actual effective) (now (buf .entry)) at (now (next .entry)) r (now (buf .exit)) (now (next .exit)) (now (refusal .exit)) ⌝ }
+{
+    telling::tell_position(
+        tool_log::put_unit(buf, at, module, recipe, time, actual, effective),
+        next,
+        refusal,
+    )
+}
+
+// The reader's verdict on the bytes before a position.
+#[no_mangle]
+pub extern "C" fn tl_finish_log(buf: &[u8], at: usize, refusal: &mut [u64; 3]) -> u32
+    ensures { λ r. ⌜ TellsFinishing (now (buf .entry)) at r (now (refusal .exit)) ⌝ }
+{
+    telling::tell(tool_log::finish_log(buf, at), refusal)
 }
