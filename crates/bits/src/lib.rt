@@ -37,7 +37,7 @@ fn little_word(s: &[u8], i: usize) -> u64
 }
 
 // A number's eight bytes in the opposite sequence, which the compiler makes one instruction.
-fn swapped(n: u64) -> u64
+pub fn swapped(n: u64) -> u64
     ensures { λ r. ⌜ r ≡ swappedOf n ⌝ }
 {
     n % 0x100 * 0x100_0000_0000_0000

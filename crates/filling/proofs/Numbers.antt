@@ -1,13 +1,14 @@
--- The bytes of a number, the most significant first: how many, which, and where a number of two parts is cut.
+-- The bytes of a number, the most significant first: how many, which, where a number of two parts is cut, and how they are put one by one.
 -- Assumes nothing.
 use mathlib.Core.Path.{_≡_, refl, sym, ap, ap₂, _∙_}
-use mathlib.Core.List.{_∷_, _++_}
-use Prim.Native.Nat.{ℕ, zero, suc, _+_, _-_, _*_, _/_, _%_, _^_, _<_}
+use mathlib.Core.List.{List, _∷_, _++_}
+use Prim.Native.Nat.{ℕ, zero, suc, _+_, _-_, _*_, _/_, _%_, _^_, _≤_, _<_}
 use native.Mathlib.Nat.{zero-add, suc-add}
 use native.Mathlib.Omega.{arith}
-use lib.ListN.{length, getD}
+use lib.ListN.{length, getD, set}
 use lib.Pow.{shr-shr, field, mod-mod-pow}
-use Rattle.filling.specs.Buffer.{bigEndian}
+use Rattle.filling.specs.Buffer.{Put, bigEndian}
+use Rattle.filling.proofs.Written.{Copied, copied-none, copied-more, copied-all}
 
 pub number-length : (n v : ℕ) → length (bigEndian n v) ≡ n
 unfolding bigEndian
@@ -44,3 +45,18 @@ number-parts (suc m) n v first second p q =
     let d : 8 * (m + n) ≡ 8 * n + 8 * m = omega arith in
     let here : v / 2 ^ (8 * (m + n)) ≡ first / 2 ^ (8 * m) = rw (d, p) (sym (shr-shr v (8 * n) (8 * m))) in
     rw (suc-add m n, here, number-parts m n v first second p q)
+
+-- ---- put byte by byte
+
+module _ (n v : ℕ) (before : List ℕ) (at : ℕ) (room : at + n ≤ length before) where
+  fits : at + length (bigEndian n v) ≤ length before
+  fits = omega (arith, number-length n v)
+
+  pub number-none : Copied (bigEndian n v) before at 0 before
+  number-none = copied-none (bigEndian n v) before at fits
+
+  pub number-more : (i b : ℕ) (after : List ℕ) → i < n → b ≡ v / 2 ^ (8 * (n - 1 - i)) % 256 → Copied (bigEndian n v) before at i after → Copied (bigEndian n v) before at (i + 1) (set after (at + i) b)
+  number-more i b after h e c = copied-more (bigEndian n v) before at fits i b 0 after (omega (arith, number-length n v)) (e ∙ sym (number-byte n v i h)) c
+
+  pub number-all : (i : ℕ) (after : List ℕ) → n ≤ i → Copied (bigEndian n v) before at i after → Put (bigEndian n v) before at (at + i) after
+  number-all i after h c = copied-all (bigEndian n v) before at fits i after (omega (arith, number-length n v)) c

@@ -28,11 +28,11 @@ unit-first m r t a e h = omega arith
 pub unit-second : (m r t a e : ℕ) → (a * 2 ^ 21 + e * 2 ^ 5) % 2 ^ 24 ≡ valueOf (unitEntry m r t a e .slots) % 2 ^ 24
 unit-second m r t a e = omega arith
 
-pub header-lt : (p m s : ℕ) → p < 2 ^ 35 → m < 2 ^ 7 → s < 2 ^ 14 → p * 2 ^ 21 + m * 2 ^ 14 + s < 2 ^ 64
-header-lt p m s h k l = omega arith
+pub header-lt : (p m s d : ℕ) → p < 2 ^ 35 → m < 2 ^ 7 → s < 2 ^ 14 → d < 2 ^ 11 → p * 2 ^ 29 + m * 2 ^ 22 + s * 2 ^ 8 + d / 2 ^ 3 < 2 ^ 64
+header-lt p m s d h k l n = omega arith
 
-pub header-first : (p m s d u : ℕ) → d < 2 ^ 11 → u < 2 ^ 13 → p * 2 ^ 21 + m * 2 ^ 14 + s ≡ valueOf (headerEntry p m s d u .slots) / 2 ^ 24
-header-first p m s d u h k = omega arith
+pub header-first : (p m s d u : ℕ) → u < 2 ^ 13 → p * 2 ^ 29 + m * 2 ^ 22 + s * 2 ^ 8 + d / 2 ^ 3 ≡ valueOf (headerEntry p m s d u .slots) / 2 ^ 16
+header-first p m s d u h = omega arith
 
-pub header-second : (p m s d u : ℕ) → (d * 2 ^ 13 + u) % 2 ^ 24 ≡ valueOf (headerEntry p m s d u .slots) % 2 ^ 24
+pub header-second : (p m s d u : ℕ) → (d * 2 ^ 13 + u) % 2 ^ 16 ≡ valueOf (headerEntry p m s d u .slots) % 2 ^ 16
 header-second p m s d u = omega arith

@@ -2,7 +2,7 @@
 // is taken, and nothing is remembered from one call to the next.
 ghost use mathlib.Core.Path.{_≡_};
 ghost use mathlib.Core.List.{_++_};
-ghost use Prim.Native.Nat.{_≤_};
+ghost use Prim.Native.Nat.{_-_, _≤_, _<_};
 ghost use Rattle.filling.specs.Buffer.{bigEndian};
 ghost use Rattle.writing.specs.Writing.{headerEntry, stateEntry, standardEntry, unitEntry, Added, Finished};
 ghost use Rattle.writing.specs.Storing.{Stored};
@@ -25,16 +25,19 @@ fn refused(number: usize, list: usize) -> PositionAnswer
     })
 }
 
+// How many of `room` bytes stand from a position on: none past the end.
+fn bytes_from(room: usize, at: usize) -> usize
+    ensures { λ r. ⌜ r ≡ room - at ⌝ }
+{
+    if at < room { room - at } else { 0 }
+}
+
 // Puts the m low bytes of one number and the n low bytes of another behind them, unless the buffer has no place for both at the position.
 fn add(buf: &mut [u8], at: usize, m: usize, first: u64, n: usize, second: u64) -> PositionAnswer
-    requires { ⌜ (m ≤ 8) × (n ≤ 8) ⌝ }
+    requires { ⌜ (0 < m) × (m ≤ 8) × (n ≤ 8) ⌝ }
     ensures { λ r. ⌜ Stored (bigEndian m first ++ bigEndian n second) (now (buf .entry)) at r (now (buf .exit)) ⌝ }
 {
-    let room = buf.len();
-    if room < m + n {
-        return refused(18, 0);
-    }
-    if room - (m + n) < at {
+    if bytes_from(buf.len(), at) < m + n {
         return refused(18, 0);
     }
     let middle = filling::put_number(buf, at, m, first);
@@ -62,9 +65,9 @@ pub fn put_header(
     {
         return refused(22, 0);
     }
-    let first = period * 0x20_0000 + modules * 0x4000 + states;
+    let first = period * 0x2000_0000 + modules * 0x40_0000 + states * 0x100 + standards / 8;
     let second = standards * 0x2000 + units;
-    add(buf, at, 7, first, 3, second)
+    add(buf, at, 8, first, 2, second)
 }
 
 // Adds a state record.

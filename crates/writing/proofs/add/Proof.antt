@@ -21,41 +21,36 @@ size m first n second = length-append (bigEndian m first) (bigEndian n second) �
 
 returns : tie.Need-returns
 returns c =
-    let s = c .before .before .before .args in
-    not-stored (text (s .m) (s .first) (s .n) (s .second)) (now (s .buf)) (s .at) _ (omega (arith, size (s .m) (s .first) (s .n) (s .second))) (c .refused .ensures)
-
-returns-2 : tie.Need-returns-2
-returns-2 c =
     let s = c .before .before .before .before .args in
-    not-stored (text (s .m) (s .first) (s .n) (s .second)) (now (s .buf)) (s .at) _ (omega (arith, size (s .m) (s .first) (s .n) (s .second))) (c .refused2 .ensures)
+    not-stored (text (s .m) (s .first) (s .n) (s .second)) (now (s .buf)) (s .at) _ (omega (arith, size (s .m) (s .first) (s .n) (s .second), c .before .before .bytes-from .ensures)) (c .refused .ensures)
+
+put-number-requires : tie.Need-put-number-requires
+put-number-requires c κs = (omega (arith, c .before .before .bytes-from .ensures), omega arith)
 
 put-number-requires-2 : tie.Need-put-number-requires-2
 put-number-requires-2 c κs =
     let p = c .before .before .before in
     let s = p .before .before .before .before .before .args in
     let first = number-length (s .m) (s .first) in
-    let same = put-length (p .put-number .ensures) (omega (arith, first)) in
-    (omega (arith, same, first, p .put-number .ensures .next), omega arith)
+    let same = put-length (p .put-number .ensures) (omega (arith, first, p .before .before .before .bytes-from .ensures)) in
+    (omega (arith, same, first, p .put-number .ensures .next, p .before .before .before .bytes-from .ensures), omega arith)
 
-returns-3 : tie.Need-returns-3
-returns-3 c =
+returns-2 : tie.Need-returns-2
+returns-2 c =
     let q = c .before .before in
     let p = q .before .before .before .before in
     let s = p .before .before .before .before .before .args in
-    stored (text (s .m) (s .first) (s .n) (s .second)) (now (s .buf)) (s .at) _ _ (omega (arith, size (s .m) (s .first) (s .n) (s .second))) ((then) (p .put-number .ensures) (q .put-number2 .ensures))
+    stored (text (s .m) (s .first) (s .n) (s .second)) (now (s .buf)) (s .at) _ _ (omega (arith, size (s .m) (s .first) (s .n) (s .second), p .before .before .before .bytes-from .ensures)) ((then) (p .put-number .ensures) (q .put-number2 .ensures))
 
 pub add-spec : {M : Type 1} → statement M
 add-spec =
     tie.close
     (tie.spec
+    (λ c κs. search needs)
     (λ c. search needs)
     (λ c κs. search needs)
     returns
-    (λ c. search needs)
-    (λ c. search needs)
-    (λ c κs. search needs)
-    returns-2
-    (λ c κs. search needs)
+    put-number-requires
     put-number-requires-2
     (λ c. search needs)
-    returns-3)
+    returns-2)

@@ -8,7 +8,7 @@ use Rattle.bits.specs.Put.{Fit}
 use Rattle.writing.specs.Writing.{headerEntry}
 use Rattle.writing.proofs.Fitting.{fit-excess}
 use Rattle.writing.proofs.Bytes.{record-bytes}
-use Rattle.writing.proofs.Values.{header-lt, header-first, header-second}
+use Rattle.writing.proofs.Values.{part-lt, header-lt, header-first, header-second}
 use Rattle.writing.proofs.Storing.{not-added, added}
 use Rattle.writing.proofs.put_header.Statement.{statement}
 use Rattle.writing.proofs.put_header.Tie as tie
@@ -21,8 +21,14 @@ returns c =
 fit : (c : tie.Else1) → let s = c .before .before .args in Fit (headerEntry (s .period) (s .modules) (s .states) (s .standards) (s .units) .slots)
 fit c = let s = c .before .before .args in fit-excess (headerEntry (s .period) (s .modules) (s .states) (s .standards) (s .units) .slots) (omega arith)
 
+add-first : tie.Need-add-first
+add-first c = let f = fit c in record { fits = part-lt _ _ _ (part-lt _ _ _ (header-lt _ _ _ _ (f .0) (f .1 .0) (f .1 .1 .0) (f .1 .1 .1 .0))) }
+
 add-first-2 : tie.Need-add-first-2
-add-first-2 c = let f = fit c in record { fits = header-lt _ _ _ (f .0) (f .1 .0) (f .1 .1 .0) }
+add-first-2 c = let f = fit c in record { fits = part-lt _ _ _ (header-lt _ _ _ _ (f .0) (f .1 .0) (f .1 .1 .0) (f .1 .1 .1 .0)) }
+
+add-first-3 : tie.Need-add-first-3
+add-first-3 c = let f = fit c in record { fits = header-lt _ _ _ _ (f .0) (f .1 .0) (f .1 .1 .0) (f .1 .1 .1 .0) }
 
 returns-2 : tie.Need-returns-2
 returns-2 c =
@@ -30,7 +36,7 @@ returns-2 c =
     let s = a .before .before .before .before .args in
     let e = headerEntry (s .period) (s .modules) (s .states) (s .standards) (s .units) in
     let f = fit (a .before .before) in
-    added e (now (s .buf)) (s .at) _ _ _ f (record-bytes 7 3 (e .slots) _ _ f refl (header-first _ _ _ _ _ (f .1 .1 .1 .0) (f .1 .1 .1 .1 .0)) (header-second (s .period) (s .modules) (s .states) _ _)) (a .add .ensures)
+    added e (now (s .buf)) (s .at) _ _ _ f (record-bytes 8 2 (e .slots) _ _ f refl (header-first _ _ _ _ _ (f .1 .1 .1 .1 .0)) (header-second (s .period) (s .modules) (s .states) _ _)) (a .add .ensures)
 
 pub put-header-spec : {M : Type 1} → statement M
 put-header-spec =
@@ -44,8 +50,10 @@ put-header-spec =
     returns
     (λ c. search needs)
     (λ c. search needs)
+    add-first
     (λ c. search needs)
     add-first-2
+    add-first-3
     (λ c. search needs)
     (λ c. search needs)
     (λ c κs. search needs)
