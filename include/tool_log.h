@@ -1,5 +1,6 @@
 /*
- * tool_log.h: the packed log of a semiconductor tool, answered: state times, the quantities and efficiencies of SEMI E79, and the shift report.
+ * tool_log.h: the packed log of a semiconductor tool, answered: state times, the quantities and efficiencies of SEMI E79, and the shift report; and
+ * written, record by record.
  *
  * Link libtool_log_c.a (x86-64 Linux). It needs nothing but C's memcpy and memset.
  *
@@ -79,8 +80,8 @@ enum { TL_NUMBER, TL_LIST, TL_PLACE, TL_REFUSAL };
     X(2, "standards") \
     X(3, "units")
 
-/* What refusal[TL_NUMBER] says. X(number, trade word, ground)
- * refusal[TL_PLACE] is the record's index from 0 in its list, or the module for 11, 16 and a 7 with list 0; it is 0 for 1 to 5, 17 and 18. */
+/* What refusal[TL_NUMBER] says. X(number, trade word, ground); 20 and 21 are not in use.
+ * refusal[TL_PLACE] is the record's index from 0 in its list, or the module for 11, 16 and a 7 with list 0; it is 0 for 1 to 5, 17, 18 and 22. */
 #define TL_REFUSALS(X) \
     X(1, "no header", "under 10 bytes") \
     X(2, "period", "0 or over 366 days (31,622,400,000 ms)") \
@@ -99,8 +100,9 @@ enum { TL_NUMBER, TL_LIST, TL_PLACE, TL_REFUSAL };
     X(15, "no standard", "none in force for a unit record") \
     X(16, "too fast", "a module's actual theoretical time above its production time") \
     X(17, "too great", "a tool sum above 9,007,199,254,740,991 ms") \
-    X(18, "short buffer", "report longer than the buffer") \
-    X(19, "unsorted", "out of rising sequence: standards by recipe and start, units by time, module and recipe")
+    X(18, "short buffer", "report longer than the buffer, or a record that does not fit at its position") \
+    X(19, "unsorted", "out of rising sequence: standards by recipe and start, units by time, module and recipe") \
+    X(22, "too wide", "a value does not fit its field")
 
 enum {
     TL_NO_HEADER = 1,
@@ -121,7 +123,8 @@ enum {
     TL_TOO_FAST,
     TL_TOO_GREAT,
     TL_SHORT_BUFFER,
-    TL_UNSORTED
+    TL_UNSORTED,
+    TL_TOO_WIDE = 22
 };
 
 /*
@@ -164,6 +167,36 @@ uint32_t tl_module_figures(const uint8_t *log, size_t log_len, size_t module, do
 
 /* The figures of the tool, from its summed quantities and not from its modules' figures. Refused where the log is. */
 uint32_t tl_tool_figures(const uint8_t *log, size_t log_len, double figures[6], uint8_t based[4], uint64_t refusal[3]);
+
+/*
+ * Writing a log. Each of these four adds one record to `buf` at position `at`, in bytes from its front, and fills `next` with the position behind the
+ * record: where the next one is to be added. Values are in the units and sequence of document 01's fields; spare bits become 0. No other byte of `buf`
+ * changes, and on a refusal none does, `next` included. A log is the header, then the states, standards and units that it counts, from position 0 on:
+ *
+ *     uint64_t at[1] = {0};
+ *     tl_put_header(buf, buf_len, at[0], period, modules, states, standards, units, at, refusal)
+ *         && tl_put_state(buf, buf_len, at[0], module, code, time, at, refusal) ...
+ *         && tl_finish_log(buf, buf_len, at[0], refusal)
+ *
+ * Refused with 22, list 0 for the header, 1, 2 or 3 for the others and place 0: a value does not fit its field, whatever the position. Then with 18:
+ * the record does not fit the buffer at the position, however large. What a value means is not tested here, nor the sequence of the calls:
+ * tl_finish_log does that.
+ * The widths, in bits: period, time and start 35; modules 7; the counts of states 14, of standards 11, of units 13; module 6; code 5; recipe 10;
+ * theoretical time 27; actual and effective units 16 each.
+ */
+uint32_t tl_put_header(uint8_t *buf, size_t buf_len, size_t at, uint64_t period, uint64_t modules, uint64_t states, uint64_t standards, uint64_t units,
+                       uint64_t next[1], uint64_t refusal[3]);
+uint32_t tl_put_state(uint8_t *buf, size_t buf_len, size_t at, uint64_t module, uint64_t code, uint64_t time, uint64_t next[1], uint64_t refusal[3]);
+uint32_t tl_put_standard(uint8_t *buf, size_t buf_len, size_t at, uint64_t recipe, uint64_t start, uint64_t theoretical, uint64_t next[1],
+                         uint64_t refusal[3]);
+uint32_t tl_put_unit(uint8_t *buf, size_t buf_len, size_t at, uint64_t module, uint64_t recipe, uint64_t time, uint64_t actual, uint64_t effective,
+                     uint64_t next[1], uint64_t refusal[3]);
+
+/*
+ * Whether the bytes of `buf` before position `at` are a log that is accepted. Bytes from there on are not looked at, and nothing is written but
+ * `refusal`. Refused with 18: the position is past the buffer. With any other number: the log, as tl_examine refuses it.
+ */
+uint32_t tl_finish_log(const uint8_t *buf, size_t buf_len, size_t at, uint64_t refusal[3]);
 
 #ifdef __cplusplus
 }

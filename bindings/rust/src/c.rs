@@ -17,4 +17,49 @@ extern "C" {
         refusal: *mut [u64; 3],
     ) -> u32;
     pub fn tl_tool_figures(log: *const u8, log_len: usize, figures: *mut [f64; 6], based: *mut [u8; 4], refusal: *mut [u64; 3]) -> u32;
+    pub fn tl_put_header(
+        buf: *mut u8,
+        buf_len: usize,
+        at: usize,
+        period: u64,
+        modules: u64,
+        states: u64,
+        standards: u64,
+        units: u64,
+        next: *mut [u64; 1],
+        refusal: *mut [u64; 3],
+    ) -> u32;
+    pub fn tl_put_state(
+        buf: *mut u8,
+        buf_len: usize,
+        at: usize,
+        module: u64,
+        code: u64,
+        time: u64,
+        next: *mut [u64; 1],
+        refusal: *mut [u64; 3],
+    ) -> u32;
+    pub fn tl_put_standard(
+        buf: *mut u8,
+        buf_len: usize,
+        at: usize,
+        recipe: u64,
+        start: u64,
+        theoretical: u64,
+        next: *mut [u64; 1],
+        refusal: *mut [u64; 3],
+    ) -> u32;
+    pub fn tl_put_unit(
+        buf: *mut u8,
+        buf_len: usize,
+        at: usize,
+        module: u64,
+        recipe: u64,
+        time: u64,
+        actual: u64,
+        effective: u64,
+        next: *mut [u64; 1],
+        refusal: *mut [u64; 3],
+    ) -> u32;
+    pub fn tl_finish_log(buf: *const u8, buf_len: usize, at: usize, refusal: *mut [u64; 3]) -> u32;
 }
