@@ -8,7 +8,7 @@
  * may call it at the same time with arrays of their own. It uses less than 64 KiB of stack.
  *
  * What a function answers
- *   1  answered (tl_examine: accepted). The answer's arrays are filled, and `refusal` becomes three zeros.
+ *   1  answered (tl_examine and tl_finish_log: accepted; tl_put_...: added). The answer's arrays are filled, and `refusal` becomes three zeros.
  *   0  refused. `refusal` holds number, list and place, and every other array keeps its content.
  *   tl_report alone answers a length instead, and takes no `refusal`: tl_examine gives the reason.
  *
@@ -170,8 +170,8 @@ uint32_t tl_tool_figures(const uint8_t *log, size_t log_len, double figures[6], 
 
 /*
  * Writing a log. Each of these four adds one record to `buf` at position `at`, in bytes from its front, and fills `next` with the position behind the
- * record: where the next one is to be added. Values are in the units and sequence of document 01's fields; spare bits become 0. No other byte of `buf`
- * changes, and on a refusal none does, `next` included. A log is the header, then the states, standards and units that it counts, from position 0 on:
+ * record: where the next one is to be added. Period, times, starts and theoretical times are in ms; spare bits become 0. No other byte of `buf`
+ * changes, and on a refusal none does, nor does `next`. A log is the header, then the states, standards and units that it counts, from position 0 on:
  *
  *     uint64_t at[1] = {0};
  *     tl_put_header(buf, buf_len, at[0], period, modules, states, standards, units, at, refusal)
@@ -180,7 +180,8 @@ uint32_t tl_tool_figures(const uint8_t *log, size_t log_len, double figures[6], 
  *
  * Refused with 22, list 0 for the header, 1, 2 or 3 for the others and place 0: a value does not fit its field, whatever the position. Then with 18:
  * the record does not fit the buffer at the position, however large. What a value means is not tested here, nor the sequence of the calls:
- * tl_finish_log does that.
+ * tl_finish_log tests the bytes that came of them. A log written as above, that it accepts, says what was given to the calls; one whose records were
+ * added in another sequence may be accepted too, and say something else.
  * The widths, in bits: period, time and start 35; modules 7; the counts of states 14, of standards 11, of units 13; module 6; code 5; recipe 10;
  * theoretical time 27; actual and effective units 16 each.
  */
