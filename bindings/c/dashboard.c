@@ -4,26 +4,12 @@
 #include <inttypes.h>
 #include <stdio.h>
 
+#include "refusal.h"
 #include "tool_log.h"
 
-struct row {
-    uint64_t number;
-    const char *word;
-    const char *ground;
-};
-
-#define REFUSAL(number, word, ground) {number, word, ground},
-#define NAME(entry, name) name,
-static const struct row refusals[] = {TL_REFUSALS(REFUSAL)};
-static const char *const lists[] = {TL_LISTS(NAME)};
+#define NAME(state, name) name,
 static const char *const states[] = {TL_STATES(NAME)};
 static const char *const titles[TL_FIGURES] = {"availability", "operational", "rate", "quality", "OEE", "product"};
-
-static void print_refusal(const uint64_t refusal[3])
-{
-    const struct row *r = &refusals[refusal[TL_NUMBER] - 1];
-    printf("refused: %" PRIu64 " %s: %s (list %s, place %" PRIu64 ")\n", r->number, r->word, r->ground, lists[refusal[TL_LIST]], refusal[TL_PLACE]);
-}
 
 static void print_times(const uint64_t times[6])
 {

@@ -1,11 +1,12 @@
-/* Tests every function of tool_log.h on logs packed here: case W, a log with no uptime, and bytes that are refused. */
+/* Tests every function of tool_log.h: the reading ones on case W, a log with no uptime, and bytes that are refused; the writing ones on every width,
+ * on every position that matters, and on bytes worked out by hand. */
 #include <inttypes.h>
 #include <math.h>
 #include <stdio.h>
 #include <stdlib.h>
 #include <string.h>
 
-#include "pack.h"
+#include "logs.h"
 #include "tool_log.h"
 
 static unsigned checks, failures;
@@ -26,6 +27,23 @@ static const char report[] = "module avail oper rate qual oee\n"
                              "1 0.9405 0.9367 0.9797 0.9586 0.8274\n"
                              "2 1.0000 0.4762 0.9375 1.0000 0.4464\n"
                              "tool 0.9702 0.7730 0.9524 0.9569 0.6835\n";
+
+/* Case W, a record on each line, worked out by hand and not by the library. */
+static const uint8_t week[100] = {
+    0x04, 0x81, 0x90, 0x80, 0x00, 0xc0, 0x08, 0x00, 0x20, 0x03,
+    0x00, 0x00, 0x00, 0x00, 0x00, 0x00,
+    0x04, 0x00, 0x00, 0x00, 0x00, 0x00,
+    0x08, 0x00, 0x00, 0x00, 0x00, 0x00,
+    0x08, 0xe0, 0x44, 0xaa, 0x20, 0x00,
+    0x04, 0xe0, 0x7f, 0x07, 0x88, 0x00,
+    0x00, 0xe0, 0x80, 0xbe, 0xfc, 0x00,
+    0x06, 0x40, 0x87, 0x9c, 0xcc, 0x00,
+    0x02, 0x40, 0x8b, 0xe7, 0x6e, 0x00,
+    0x00, 0x00, 0x00, 0x00, 0x00, 0x00, 0x1b, 0x77, 0x40,
+    0x00, 0x00, 0x00, 0x06, 0xdd, 0xd0, 0x00, 0x23, 0x00, 0x20, 0xa0,
+    0x04, 0x00, 0x00, 0x06, 0xdd, 0xd0, 0x00, 0x24, 0x40, 0x22, 0xc0,
+    0x08, 0x00, 0x00, 0x06, 0xdd, 0xd0, 0x00, 0x12, 0xc0, 0x12, 0xc0,
+};
 
 static int is(const uint64_t refusal[3], uint64_t number, uint64_t list, uint64_t place)
 {
@@ -69,6 +87,7 @@ static void refused(const uint8_t *bytes, size_t length, uint64_t number, uint64
 
     CHECK(tl_examine(log, length, TL_LONGEST_REPORT, why) == 0 && is(why, number, list, place));
     CHECK(tl_examine(log, length, 0, why) == 0 && is(why, number, list, place));
+    CHECK(tl_finish_log(log, length, length, why) == 0 && is(why, number, list, place));
     CHECK(tl_report(log, length, buf, TL_LONGEST_REPORT) == 0);
     CHECK(tl_report(log, length, buf, 0) == 0);
     for (size_t m = 0; m < 2; m++) {
@@ -89,13 +108,10 @@ static void refused(const uint8_t *bytes, size_t length, uint64_t number, uint64
 
 static void case_w(void)
 {
-    struct packed p = pack_case_w(3600000);
-    size_t length = packed_length(&p);
-    uint8_t *log = copied(p.bytes, length), based[4], *buf;
+    size_t length = sizeof week;
+    uint8_t *log = copied(week, length), based[4], *buf;
     uint64_t times[6], quantities[5], why[3] = {9, 9, 9};
     double figures[6];
-
-    CHECK(length == 100);
 
     /* the report, in a buffer that it fills, in a longer one, and in one that is a byte short */
     CHECK(tl_examine(log, length, 183, why) == 1 && is(why, 0, 0, 0));
@@ -149,42 +165,42 @@ static void case_w(void)
 
 static void no_uptime(void)
 {
-    struct packed p = pack_idle();
-    size_t length = packed_length(&p);
+    struct written log = write_idle();
     uint8_t based[4];
     uint64_t why[3];
     double figures[6];
     const uint8_t bases[4] = {1, 0, 0, 0};
 
-    CHECK(tl_module_figures(p.bytes, length, 0, figures, based, why) == 1 && !memcmp(based, bases, 4));
+    CHECK(tl_module_figures(log.bytes, log.length, 0, figures, based, why) == 1 && !memcmp(based, bases, 4));
     CHECK(figures[TL_AVAILABILITY] == 0 && isnan(figures[TL_OPERATIONAL]) && isnan(figures[TL_RATE]) && isnan(figures[TL_QUALITY]));
     CHECK(figures[TL_OEE] == 0 && figures[TL_PRODUCT] == 0);
-    CHECK(tl_tool_figures(p.bytes, length, figures, based, why) == 1 && !memcmp(based, bases, 4));
+    CHECK(tl_tool_figures(log.bytes, log.length, figures, based, why) == 1 && !memcmp(based, bases, 4));
 }
 
 static void damaged(void)
 {
-    struct packed w = pack_case_w(3600000), late = pack_case_w(604800000), early = pack_case_w(3599999), log;
-    size_t length = packed_length(&w);
+    struct written late = write_case_w(604800000), early = write_case_w(3599999);
+    const size_t length = sizeof week;
+    uint8_t log[sizeof week + 1] = {0};
 
-    refused(w.bytes, 0, TL_NO_HEADER, 0, 0);
-    refused(w.bytes, 9, TL_NO_HEADER, 0, 0);
-    refused(w.bytes, length - 1, TL_BAD_LENGTH, 0, 0);
-    refused(w.bytes, length + 1, TL_BAD_LENGTH, 0, 0);
-    refused(late.bytes, length, TL_OUTSIDE, 3, 2);
-    refused(early.bytes, length, TL_UNSORTED, 3, 2);
-    log = w;
-    log.bytes[0] |= 0xf0;
-    refused(log.bytes, length, TL_BAD_PERIOD, 0, 0);
-    log = w;
-    log.bytes[15] |= 1;
-    refused(log.bytes, length, TL_SPARE, 1, 0);
-    log = w;
-    log.bytes[length - 1] |= 1;
-    refused(log.bytes, length, TL_SPARE, 3, 2);
-    log = w;
-    log.bytes[16] &= 3;
-    refused(log.bytes, length, TL_SEQUENCE, 1, 1);
+    memcpy(log, week, length);
+    refused(log, 0, TL_NO_HEADER, 0, 0);
+    refused(log, 9, TL_NO_HEADER, 0, 0);
+    refused(log, length - 1, TL_BAD_LENGTH, 0, 0);
+    refused(log, length + 1, TL_BAD_LENGTH, 0, 0);
+    refused(late.bytes, late.length, TL_OUTSIDE, 3, 2);
+    refused(early.bytes, early.length, TL_UNSORTED, 3, 2);
+    log[0] |= 0xf0;
+    refused(log, length, TL_BAD_PERIOD, 0, 0);
+    memcpy(log, week, length);
+    log[15] |= 1;
+    refused(log, length, TL_SPARE, 1, 0);
+    memcpy(log, week, length);
+    log[length - 1] |= 1;
+    refused(log, length, TL_SPARE, 3, 2);
+    memcpy(log, week, length);
+    log[16] &= 3;
+    refused(log, length, TL_SEQUENCE, 1, 1);
 }
 
 static uint64_t field(const uint8_t *bytes, unsigned from, unsigned width)
@@ -230,15 +246,243 @@ static void random_bytes(void)
     }
 }
 
-/* The header's tables count up, so that a number is an index. */
+/* ---- writing */
+
+/* The adding calls by the list of their records: sizes in bytes, widths in bits. What is left of a record is spare. */
+static const struct {
+    size_t size;
+    unsigned fields, widths[5];
+} kinds[4] = {
+    {10, 5, {35, 7, 14, 11, 13}},
+    {6, 3, {6, 5, 35}},
+    {9, 3, {10, 35, 27}},
+    {11, 5, {6, 10, 35, 16, 16}},
+};
+
+static uint32_t put(int list, uint8_t *buf, size_t buf_len, size_t at, const uint64_t v[5], uint64_t next[1], uint64_t why[3])
+{
+    switch (list) {
+    case 0:
+        return tl_put_header(buf, buf_len, at, v[0], v[1], v[2], v[3], v[4], next, why);
+    case 1:
+        return tl_put_state(buf, buf_len, at, v[0], v[1], v[2], next, why);
+    case 2:
+        return tl_put_standard(buf, buf_len, at, v[0], v[1], v[2], next, why);
+    default:
+        return tl_put_unit(buf, buf_len, at, v[0], v[1], v[2], v[3], v[4], next, why);
+    }
+}
+
+/* What an adding call is lent, with guards on both sides of each array: a buffer of up to MOST bytes from bytes[GUARD] on, next[1], why[1] to why[3]. */
+enum { GUARD = 32, MOST = 64 };
+
+struct lent {
+    uint8_t bytes[GUARD + MOST + GUARD];
+    uint64_t next[3], why[5];
+};
+
+static struct lent lend(unsigned char fill)
+{
+    struct lent l;
+    memset(l.bytes, fill, sizeof l.bytes);
+    memset(l.next, 0xa5, sizeof l.next);
+    memset(l.why, 0xa5, sizeof l.why);
+    return l;
+}
+
+static int same(const struct lent *a, const struct lent *b)
+{
+    return !memcmp(a->bytes, b->bytes, sizeof a->bytes) && !memcmp(a->next, b->next, sizeof a->next) && !memcmp(a->why, b->why, sizeof a->why);
+}
+
+/* A call that adds its record: its values are read back bit by bit, its spare bits are 0, whatever was there, and nothing else changes. */
+static void added(int list, const uint64_t values[5], size_t buf_len, size_t at)
+{
+    const unsigned char fills[3] = {0x00, 0xff, 0xa5};
+    const size_t size = kinds[list].size;
+
+    for (int n = 0; n < 3; n++) {
+        struct lent was = lend(fills[n]), now = was;
+        uint8_t *record = now.bytes + GUARD + at;
+        unsigned from = 0;
+
+        CHECK(put(list, now.bytes + GUARD, buf_len, at, values, now.next + 1, now.why + 1) == 1);
+        CHECK(is(now.why + 1, 0, 0, 0) && now.next[1] == at + size);
+        for (unsigned i = 0; i < kinds[list].fields; i++) {
+            CHECK(field(record, from, kinds[list].widths[i]) == values[i]);
+            from += kinds[list].widths[i];
+        }
+        CHECK(field(record, from, (unsigned)(8 * size) - from) == 0);
+
+        memset(record, fills[n], size);
+        memset(now.next + 1, 0xa5, sizeof *now.next);
+        memset(now.why + 1, 0xa5, 3 * sizeof *now.why);
+        CHECK(same(&now, &was));
+    }
+}
+
+/* A call that adds nothing: it gives the reason, and nothing else changes. */
+static void not_added(int list, const uint64_t values[5], size_t buf_len, size_t at, uint64_t number, uint64_t in_list)
+{
+    struct lent was = lend(0xa5), now = was;
+
+    CHECK(put(list, now.bytes + GUARD, buf_len, at, values, now.next + 1, now.why + 1) == 0);
+    CHECK(is(now.why + 1, number, in_list, 0));
+    memset(now.why + 1, 0xa5, 3 * sizeof *now.why);
+    CHECK(same(&now, &was));
+}
+
+/* Records of each kind, worked out by hand: small values, and fields with every bit set beside fields with none. */
+static void worked_out(void)
+{
+    const uint64_t ones_35 = 0x7ffffffff, ones_27 = 0x7ffffff;
+    const struct {
+        int list;
+        uint64_t values[5];
+        uint8_t bytes[11];
+    } records[] = {
+        {0, {1, 2, 3, 4, 5}, {0x00, 0x00, 0x00, 0x00, 0x20, 0x80, 0x03, 0x00, 0x80, 0x05}},
+        {0, {ones_35, 0, 0x3fff, 0, 0x1fff}, {0xff, 0xff, 0xff, 0xff, 0xe0, 0x3f, 0xff, 0x00, 0x1f, 0xff}},
+        {0, {0, 0x7f, 0, 0x7ff, 0}, {0x00, 0x00, 0x00, 0x00, 0x1f, 0xc0, 0x00, 0xff, 0xe0, 0x00}},
+        {1, {1, 2, 3}, {0x04, 0x40, 0x00, 0x00, 0x00, 0x0c}},
+        {1, {0x3f, 0, ones_35}, {0xfc, 0x1f, 0xff, 0xff, 0xff, 0xfc}},
+        {1, {0, 0x1f, 0}, {0x03, 0xe0, 0x00, 0x00, 0x00, 0x00}},
+        {2, {1, 2, 3}, {0x00, 0x40, 0x00, 0x00, 0x00, 0x10, 0x00, 0x00, 0x03}},
+        {2, {0x3ff, 0, ones_27}, {0xff, 0xc0, 0x00, 0x00, 0x00, 0x07, 0xff, 0xff, 0xff}},
+        {2, {0, ones_35, 0}, {0x00, 0x3f, 0xff, 0xff, 0xff, 0xf8, 0x00, 0x00, 0x00}},
+        {3, {1, 2, 3, 4, 5}, {0x04, 0x02, 0x00, 0x00, 0x00, 0x00, 0x60, 0x00, 0x80, 0x00, 0xa0}},
+        {3, {0x3f, 0, ones_35, 0, 0xffff}, {0xfc, 0x00, 0xff, 0xff, 0xff, 0xff, 0xe0, 0x00, 0x1f, 0xff, 0xe0}},
+        {3, {0, 0x3ff, 0, 0xffff, 0}, {0x03, 0xff, 0x00, 0x00, 0x00, 0x00, 0x1f, 0xff, 0xe0, 0x00, 0x00}},
+    };
+
+    for (size_t i = 0; i < sizeof records / sizeof *records; i++) {
+        const size_t size = kinds[records[i].list].size;
+        uint8_t buf[11];
+        uint64_t next[1], why[3];
+        memset(buf, 0xa5, sizeof buf);
+        CHECK(put(records[i].list, buf, size, 0, records[i].values, next, why) == 1);
+        CHECK(!memcmp(buf, records[i].bytes, size));
+    }
+}
+
+/* Buffers that are too short, just long enough and longer; positions from 0 to past the end, and so great that their sum with the size wraps. */
+static void positions(void)
+{
+    const uint64_t values[5] = {1, 2, 3, 4, 5};
+
+    for (int list = 0; list < 4; list++) {
+        const size_t size = kinds[list].size, lengths[5] = {0, size - 1, size, size + 1, MOST};
+        for (int n = 0; n < 5; n++) {
+            for (size_t at = 0; at <= MOST + 1; at++) {
+                if (at + size <= lengths[n])
+                    added(list, values, lengths[n], at);
+                else
+                    not_added(list, values, lengths[n], at, TL_SHORT_BUFFER, 0);
+            }
+            for (size_t less = 0; less <= MOST; less++)
+                not_added(list, values, lengths[n], SIZE_MAX - less, TL_SHORT_BUFFER, 0);
+            for (int bit = 8; bit < 64; bit++)
+                not_added(list, values, lengths[n], (size_t)1 << bit, TL_SHORT_BUFFER, 0);
+        }
+    }
+}
+
+/* Each field at its greatest, one past it and wider still, between fields that are 0 and fields at their greatest, wherever the record is to stand. */
+static void widths(void)
+{
+    const size_t places[5] = {0, 3, MOST, MOST + 1, SIZE_MAX};
+
+    for (int list = 0; list < 4; list++) {
+        for (unsigned i = 0; i < kinds[list].fields; i++) {
+            const uint64_t greatest = (UINT64_C(1) << kinds[list].widths[i]) - 1;
+            for (int others = 0; others < 2; others++) {
+                uint64_t values[5] = {0};
+                for (unsigned o = 0; others && o < kinds[list].fields; o++)
+                    values[o] = (UINT64_C(1) << kinds[list].widths[o]) - 1;
+                values[i] = greatest;
+                added(list, values, MOST, 3);
+                for (int n = 0; n < 5; n++) {
+                    for (unsigned bit = kinds[list].widths[i]; bit < 64; bit++) {
+                        values[i] = UINT64_C(1) << bit;
+                        not_added(list, values, MOST, places[n], TL_TOO_WIDE, (uint64_t)list);
+                    }
+                    values[i] = UINT64_MAX;
+                    not_added(list, values, MOST, places[n], TL_TOO_WIDE, (uint64_t)list);
+                    not_added(list, values, 0, places[n], TL_TOO_WIDE, (uint64_t)list);
+                }
+            }
+        }
+    }
+}
+
+/* What a value means is left to the finishing call, and a refused adding call counts as not made. */
+static void written(void)
+{
+    const struct written log = write_case_w(3600000);
+    const uint8_t idle[16] = {0x00, 0xa4, 0xcb, 0x80, 0x00, 0x40, 0x01, 0x00, 0x00, 0x00, 0x02, 0xc0, 0x00, 0x00, 0x00, 0x00};
+    uint8_t buf[16];
+    uint64_t at[1] = {0}, why[3];
+
+    CHECK(log.length == sizeof week && !memcmp(log.bytes, week, sizeof week));
+
+    CHECK(tl_put_header(buf, sizeof buf, at[0], 86400000, 128, 1, 0, 0, at, why) == 0 && is(why, TL_TOO_WIDE, 0, 0));
+    CHECK(tl_put_header(buf, sizeof buf, at[0], 86400000, 1, 1, 0, 0, at, why) == 1 && at[0] == 10);
+    CHECK(tl_finish_log(buf, sizeof buf, at[0], why) == 0 && is(why, TL_BAD_LENGTH, 0, 0));
+    CHECK(tl_put_unit(buf, sizeof buf, at[0], 0, 0, 0, 0, 0, at, why) == 0 && is(why, TL_SHORT_BUFFER, 0, 0));
+    CHECK(tl_put_state(buf, sizeof buf, at[0], 64, 22, 0, at, why) == 0 && is(why, TL_TOO_WIDE, 1, 0));
+    CHECK(tl_put_state(buf, sizeof buf, at[0], 0, 22, 0, at, why) == 1 && at[0] == 16);
+    CHECK(tl_put_state(buf, sizeof buf, at[0], 0, 22, 1, at, why) == 0 && is(why, TL_SHORT_BUFFER, 0, 0) && at[0] == 16);
+    CHECK(tl_finish_log(buf, sizeof buf, at[0], why) == 1 && is(why, 0, 0, 0));
+    CHECK(!memcmp(buf, idle, sizeof idle));
+
+    CHECK(tl_put_state(buf, sizeof buf, 10, 0, 31, 0, at, why) == 1 && at[0] == 16);
+    CHECK(tl_finish_log(buf, sizeof buf, at[0], why) == 0 && is(why, TL_STRAY_CODE, 1, 0));
+    CHECK(tl_put_header(buf, sizeof buf, 0, 0x7ffffffff, 127, 6001, 0, 0, at, why) == 1 && at[0] == 10);
+    CHECK(tl_finish_log(buf, sizeof buf, at[0], why) == 0 && is(why, TL_BAD_PERIOD, 0, 0));
+}
+
+/* Case W at the front of a longer buffer: the bytes before the position decide, and those behind it do not. */
+static void finishing(void)
+{
+    uint8_t *exact = copied(week, sizeof week), buf[160], was[160];
+    const size_t past[5] = {sizeof buf + 1, (size_t)1 << 32, ((size_t)1 << 32) + sizeof week, SIZE_MAX - sizeof week, SIZE_MAX};
+    uint64_t why[3] = {9, 9, 9};
+
+    CHECK(tl_finish_log(exact, sizeof week, sizeof week, why) == 1 && is(why, 0, 0, 0));
+    CHECK(tl_finish_log(exact, sizeof week, sizeof week + 1, why) == 0 && is(why, TL_SHORT_BUFFER, 0, 0));
+    free(exact);
+
+    memset(buf, 0xa5, sizeof buf);
+    memcpy(buf, week, sizeof week);
+    memcpy(was, buf, sizeof buf);
+    for (size_t at = 0; at <= sizeof buf; at++) {
+        if (at == sizeof week)
+            CHECK(tl_finish_log(buf, sizeof buf, at, why) == 1 && is(why, 0, 0, 0));
+        else
+            CHECK(tl_finish_log(buf, sizeof buf, at, why) == 0 && is(why, at < 10 ? TL_NO_HEADER : TL_BAD_LENGTH, 0, 0));
+    }
+    for (int i = 0; i < 5; i++)
+        CHECK(tl_finish_log(buf, sizeof buf, past[i], why) == 0 && is(why, TL_SHORT_BUFFER, 0, 0));
+    CHECK(tl_finish_log(buf, 0, 0, why) == 0 && is(why, TL_NO_HEADER, 0, 0));
+    CHECK(tl_finish_log(buf, 0, 1, why) == 0 && is(why, TL_SHORT_BUFFER, 0, 0));
+    CHECK(!memcmp(buf, was, sizeof buf));
+
+    /* a log that is refused, and a position past it */
+    buf[sizeof week - 1] |= 1;
+    CHECK(tl_finish_log(buf, sizeof buf, sizeof week, why) == 0 && is(why, TL_SPARE, 3, 2));
+    CHECK(tl_finish_log(buf, sizeof buf, sizeof buf + 1, why) == 0 && is(why, TL_SHORT_BUFFER, 0, 0));
+}
+
+/* The header's tables: refusals 1 to 19 and 22, and lists and states that count up, so that each is an index. */
 static void tables(void)
 {
 #define NUMBER(number, word, ground) number,
 #define ENTRY(entry, name) entry,
     const int numbers[] = {TL_REFUSALS(NUMBER)}, lists[] = {TL_LISTS(ENTRY)}, states[] = {TL_STATES(ENTRY)};
-    CHECK(sizeof numbers / sizeof *numbers == TL_UNSORTED && sizeof lists / sizeof *lists == 4 && sizeof states / sizeof *states == TL_TIMES);
+    CHECK(sizeof numbers / sizeof *numbers == TL_UNSORTED + 1 && sizeof lists / sizeof *lists == 4 && sizeof states / sizeof *states == TL_TIMES);
     for (int i = 0; i < TL_UNSORTED; i++)
         CHECK(numbers[i] == i + 1);
+    CHECK(numbers[TL_UNSORTED] == TL_TOO_WIDE && TL_TOO_WIDE == 22);
     for (int i = 0; i < 4; i++)
         CHECK(lists[i] == i);
     for (int i = 0; i < TL_TIMES; i++)
@@ -248,6 +492,11 @@ static void tables(void)
 int main(void)
 {
     tables();
+    worked_out();
+    positions();
+    widths();
+    finishing();
+    written();
     case_w();
     no_uptime();
     damaged();
