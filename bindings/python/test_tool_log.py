@@ -1,12 +1,16 @@
-"""Tests tool_log.py on logs packed here: case W, a log with no uptime, and bytes that are refused."""
+"""Tests tool_log.py on logs packed here: case W, a log with no uptime, and bytes that are refused; and its writer on what is packed here too."""
 
+import enum
+import fractions
 import pathlib
 import random
 import re
 import unittest
 
 import tool_log
-from tool_log import Figures, Quantities, Refused, StateTimes
+from tool_log import Figures, Quantities, Refused, StateTimes, Writer, write_log
+
+ROOT = pathlib.Path(__file__).resolve().parent.parent.parent
 
 REPORT = """module avail oper rate qual oee
 0 0.9702 0.9202 0.9333 0.9321 0.7768
@@ -39,10 +43,17 @@ def unit(module, recipe, time, actual, effective):
     return packed((module, 6), (recipe, 10), (time, 35), (actual, 16), (effective, 16), (0, 5))
 
 
+W_STATES = ((0, 0, 0), (1, 0, 0), (2, 0, 0), (2, 7, 288000000), (1, 7, 532800000), (0, 7, 540000000), (1, 18, 568800000), (0, 18, 586800000))
+W_STANDARDS = ((0, 0, 1800000),)
+
+
+def w_units(late=3600000):
+    return ((0, 0, 3600000, 280, 261), (1, 0, 3600000, 290, 278), (2, 0, late, 150, 150))
+
+
 def case_w(late=3600000):
-    states = ((0, 0, 0), (1, 0, 0), (2, 0, 0), (2, 7, 288000000), (1, 7, 532800000), (0, 7, 540000000), (1, 18, 568800000), (0, 18, 586800000))
-    units = ((0, 0, 3600000, 280, 261), (1, 0, 3600000, 290, 278), (2, 0, late, 150, 150))
-    return header(604800000, 3, 8, 1, 3) + b"".join(state(*s) for s in states) + standard(0, 0, 1800000) + b"".join(unit(*u) for u in units)
+    records = [state(*s) for s in W_STATES] + [standard(*s) for s in W_STANDARDS] + [unit(*u) for u in w_units(late)]
+    return header(604800000, 3, 8, 1, 3) + b"".join(records)
 
 
 def idle():
@@ -63,13 +74,15 @@ CALLS = (
 )
 
 
-class Calls(unittest.TestCase):
+class Case(unittest.TestCase):
     def refused(self, number, list, place, call, *arguments):
         with self.assertRaises(Refused) as caught:
             call(*arguments)
         self.assertEqual((caught.exception.number, caught.exception.list, caught.exception.place), (number, list, place))
         return caught.exception
 
+
+class Calls(Case):
     def turned_back(self, log, number, list=0, place=0):
         """Every call on a log that is refused raises its refusal, and no byte of a buffer changes."""
         for call in CALLS:
@@ -137,9 +150,11 @@ class Calls(unittest.TestCase):
         self.assertEqual(str(refused), "refused: 9 outside: time or start at or past the period (list units, place 2)")
 
     def test_header_says_the_same(self):
-        header = (pathlib.Path(__file__).resolve().parent / "../../include/tool_log.h").read_text()
+        header = (ROOT / "include/tool_log.h").read_text()
         rows = {int(n): (word, ground) for n, word, ground in re.findall(r'X\((\d+), "([^"]*)", "([^"]*)"\)', header)}
         self.assertEqual(rows, tool_log.REFUSALS)
+        self.assertIn(f"TL_LONGEST_REPORT {tool_log.LONGEST_REPORT}\n", header)
+        self.assertIn(f"TL_LONGEST_LOG {tool_log.LONGEST_LOG}\n", header)
 
     def test_random_bytes(self):
         # The grounds 1 to 5 are worked out here from the header, which hardly any of these outlives.
@@ -160,6 +175,170 @@ class Calls(unittest.TestCase):
                 self.turned_back(log, 5)
             else:
                 self.assertRaises(Refused, tool_log.examine, log, 0)
+
+
+# The adding methods by the list of their records: name, widths, and the packing of this file.
+KINDS = (
+    ("header", (35, 7, 14, 11, 13), header),
+    ("state", (6, 5, 35), state),
+    ("standard", (10, 35, 27), standard),
+    ("unit", (6, 10, 35, 16, 16), unit),
+)
+
+
+def decoded(log):
+    """An accepted log's period, modules and records, as write_log takes them."""
+    bits = "".join(f"{byte:08b}" for byte in log)
+
+    def fields(at, widths):
+        values = []
+        for width in widths:
+            values.append(int(bits[at : at + width], 2))
+            at += width
+        return tuple(values)
+
+    period, modules, *counts = fields(0, KINDS[0][1])
+    lists, at = [], 80
+    for count, size, (_, widths, _) in zip(counts, (48, 72, 88), KINDS[1:]):
+        lists.append([fields(at + size * i, widths) for i in range(count)])
+        at += size * count
+    return period, modules, *lists
+
+
+class Writing(Case):
+    def not_added(self, writer, number, list, method, *values):
+        """A method that is refused leaves the writer as it was."""
+        written = writer.written()
+        self.refused(number, list, 0, getattr(writer, method), *values)
+        self.assertEqual(writer.written(), written)
+
+    def test_case_w(self):
+        log = write_log(604800000, 3, W_STATES, W_STANDARDS, w_units())
+        self.assertIs(type(log), bytes)
+        self.assertEqual(log, case_w())
+        self.assertEqual(tool_log.report(log), REPORT)
+        # any iterables will do
+        self.assertEqual(write_log(604800000, 3, iter(W_STATES), iter(W_STANDARDS), map(list, w_units())), case_w())
+
+    def test_record_by_record(self):
+        writer = Writer()
+        self.assertEqual(writer.written(), b"")
+        self.refused(1, 0, 0, writer.finish)
+        writer.header(period=86400000, modules=1, states=1, standards=0, units=0)
+        self.assertEqual(writer.written(), header(86400000, 1, 1, 0, 0))
+        self.refused(5, 0, 0, writer.finish)
+        writer.state(module=0, code=22, time=0)
+        self.assertEqual(writer.finish(), idle())
+        self.assertEqual(writer.finish(), idle())
+        writer.standard(recipe=1, start=2, theoretical=3)
+        self.refused(5, 0, 0, writer.finish)
+        writer.unit(module=1, recipe=2, time=3, actual=4, effective=5)
+        self.assertEqual(writer.written(), idle() + standard(1, 2, 3) + unit(1, 2, 3, 4, 5))
+
+    def test_random_values(self):
+        source = random.Random(20261116)
+        for method, widths, pack in KINDS:
+            for _ in range(500):
+                values = [source.getrandbits(width) for width in widths]
+                writer = Writer(11)
+                getattr(writer, method)(*values)
+                self.assertEqual(writer.written(), pack(*values))
+
+    def test_too_wide(self):
+        # Cut to 64 bits, the last two of these would be 5.
+        never = (-1, -(2**63), 2**64 - 1, 2**64, 2**64 + 5, 5 - 2**64)
+        for list, (method, widths, pack) in enumerate(KINDS):
+            greatest = [2**width - 1 for width in widths]
+            for i, width in enumerate(widths):
+                for values in (greatest, [0] * len(widths)):
+                    full, writer = Writer(0), Writer(20)
+                    writer.state(1, 2, 3)
+                    for value in (2**width, *never):
+                        wide = values[:i] + [value] + values[i + 1 :]
+                        self.not_added(writer, 22, list, method, *wide)
+                        self.not_added(full, 22, list, method, *wide)
+                    most = values[:i] + [greatest[i]] + values[i + 1 :]
+                    getattr(writer, method)(*most)
+                    self.assertEqual(writer.written(), state(1, 2, 3) + pack(*most))
+
+    def test_full(self):
+        for method, widths, pack in KINDS:
+            values = [1] * len(widths)
+            size = len(pack(*values))
+            for room in (0, size - 1, size, 2 * size - 1):
+                writer = Writer(room)
+                for _ in range(room // size):
+                    getattr(writer, method)(*values)
+                self.not_added(writer, 18, 0, method, *values)
+                self.assertEqual(writer.written(), pack(*values) * (room // size))
+        # a shorter record still fits
+        writer = Writer(16)
+        writer.header(86400000, 1, 1, 0, 0)
+        self.not_added(writer, 18, 0, "unit", 0, 0, 0, 0, 0)
+        writer.state(0, 22, 0)
+        self.assertEqual(writer.finish(), idle())
+        # the size that is lent by default
+        writer = Writer()
+        for _ in range(tool_log.LONGEST_LOG // 11):
+            writer.unit(0, 0, 0, 0, 0)
+        self.not_added(writer, 18, 0, "unit", 0, 0, 0, 0, 0)
+        self.assertEqual(len(writer.written()), 62612)
+        writer.state(0, 0, 0)
+        self.assertEqual(len(writer.written()), tool_log.LONGEST_LOG)
+
+    def test_no_int(self):
+        class Index:
+            def __index__(self):
+                return 1
+
+        for method, widths, _ in KINDS:
+            for i in range(len(widths)):
+                for value in (1.0, "1", b"1", None, True, False, fractions.Fraction(1), [1], Index()):
+                    writer = Writer()
+                    writer.state(1, 2, 3)
+                    # A value that is too wide comes first, and is not looked at.
+                    with self.assertRaisesRegex(TypeError, "is an int, not " + type(value).__name__):
+                        getattr(writer, method)(*[-1] * i, value, *[1] * (len(widths) - i - 1))
+                    self.assertEqual(writer.written(), state(1, 2, 3))
+        with self.assertRaisesRegex(TypeError, "^time is an int, not float 1.5$"):
+            Writer().state(0, 0, 1.5)
+        self.assertRaises(TypeError, write_log, 10, 1, [(0, 0)], [], [])
+        self.assertRaises(TypeError, Writer, 1.0)
+        self.assertRaises(ValueError, Writer, -1)
+
+    def test_named_codes(self):
+        codes = enum.IntEnum("codes", {"UNWORKED_SHIFT": 22})
+        self.assertEqual(write_log(86400000, 1, [(0, codes.UNWORKED_SHIFT, 0)], [], []), idle())
+
+    def test_refused_logs(self):
+        self.refused(9, 3, 2, write_log, 604800000, 3, W_STATES, W_STANDARDS, w_units(late=604800000))
+        self.refused(19, 3, 2, write_log, 604800000, 3, W_STATES, W_STANDARDS, w_units(late=3599999))
+        self.refused(2, 0, 0, write_log, 0, 3, W_STATES, W_STANDARDS, w_units())
+        self.refused(11, 0, 0, write_log, 10, 1, [], [], [])
+        self.refused(8, 1, 0, write_log, 10, 1, [(0, 24, 0)], [], [])
+        # Counts that fit their fields are the reader's to refuse, also those of a log that is longer than the longest.
+        self.refused(4, 0, 0, write_log, 20000, 1, [(0, 0, time) for time in range(16383)], [], [])
+        self.refused(22, 0, 0, write_log, 20000, 1, [(0, 0, time) for time in range(16384)], [], [])
+        self.refused(22, 1, 0, write_log, 10, 1, [(64, 0, 0)], [], [])
+        self.refused(22, 2, 0, write_log, 10, 1, [], [(0, 0, 2**27)], [])
+        self.refused(22, 3, 0, write_log, 10, 1, [], [], [(0, 0, 0, 0, -1)])
+
+    def test_words(self):
+        refused = self.refused(22, 3, 0, Writer().unit, 64, 0, 0, 0, 0)
+        self.assertEqual(str(refused), "refused: 22 too wide: a value does not fit its field (list units, place 0)")
+
+    def test_samples_rewritten(self):
+        accepted = 0
+        for path in sorted((ROOT / "samples").glob("*.log")):
+            log = path.read_bytes()
+            try:
+                tool_log.examine(log)
+            except Refused:
+                continue
+            with self.subTest(path.name):
+                self.assertEqual(write_log(*decoded(log)), log)
+            accepted += 1
+        self.assertGreaterEqual(accepted, 8)
 
 
 if __name__ == "__main__":

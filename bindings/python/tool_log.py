@@ -1,6 +1,7 @@
-"""The packed log of a semiconductor tool, answered: state times, the quantities and efficiencies of SEMI E79, and the shift report.
+"""The packed log of a semiconductor tool, answered: state times, the quantities and efficiencies of SEMI E79, and the shift report; and written.
 
-A log is any bytes-like object. Each call answers a dataclass or text, or raises Refused. Times are whole milliseconds. A module is counted from 0.
+A log is any bytes-like object. Each call answers a dataclass, text or bytes, or raises Refused. Times are whole milliseconds. A module is counted
+from 0. write_log makes a log of its records, and Writer makes it record by record.
 The shared object libtool_log.so stands beside this file; the environment's TOOL_LOG_LIBRARY names another.
 """
 
@@ -35,15 +36,17 @@ REFUSALS = {
     15: ("no standard", "none in force for a unit record"),
     16: ("too fast", "a module's actual theoretical time above its production time"),
     17: ("too great", "a tool sum above 9,007,199,254,740,991 ms"),
-    18: ("short buffer", "report longer than the buffer"),
+    18: ("short buffer", "report longer than the buffer, or a record that does not fit at its position"),
     19: ("unsorted", "out of rising sequence: standards by recipe and start, units by time, module and recipe"),
+    22: ("too wide", "a value does not fit its field"),
 }
 
 
 class Refused(Exception):
-    """A log turned back: its number (1 to 19), list (0 none, 1 states, 2 standards, 3 units), place, and the words for them.
+    """A log or a record turned back: its number (1 to 19, and 22), list (0 none, 1 states, 2 standards, 3 units), place, and the words for them.
 
-    The place is the record's index from 0, or the module for 11, 16 and a 7 with list 0.
+    The place is the record's index from 0, or the module for 11, 16 and a 7 with list 0. It is 0 for 1 to 5, 17, 18 and 22, whichever record a
+    22 is about; its list is 0 for the header.
     """
 
     def __init__(self, number: int, list: int, place: int):
@@ -94,9 +97,9 @@ class Figures:
 
 # ---- the C functions
 
-_u32, _size, _double = ctypes.c_uint32, ctypes.c_size_t, ctypes.c_double
+_u32, _u64, _size = ctypes.c_uint32, ctypes.c_uint64, ctypes.c_size_t
 _Times, _Quantities, _Refusal = ctypes.c_uint64 * 6, ctypes.c_uint64 * 5, ctypes.c_uint64 * 3
-_Figures, _Based = ctypes.c_double * 6, ctypes.c_uint8 * 4
+_Figures, _Based, _Next = ctypes.c_double * 6, ctypes.c_uint8 * 4, ctypes.c_uint64 * 1
 
 _library = ctypes.CDLL(os.environ.get("TOOL_LOG_LIBRARY") or str(pathlib.Path(__file__).resolve().parent / "libtool_log.so"))
 
@@ -117,6 +120,11 @@ _module_quantities = _function("tl_module_quantities", _u32, _size, _P(_Quantiti
 _tool_quantities = _function("tl_tool_quantities", _u32, _P(_Quantities), _P(_Refusal))
 _module_figures = _function("tl_module_figures", _u32, _size, _P(_Figures), _P(_Based), _P(_Refusal))
 _tool_figures = _function("tl_tool_figures", _u32, _P(_Figures), _P(_Based), _P(_Refusal))
+_put_header = _function("tl_put_header", _u32, _size, _u64, _u64, _u64, _u64, _u64, _P(_Next), _P(_Refusal))
+_put_state = _function("tl_put_state", _u32, _size, _u64, _u64, _u64, _P(_Next), _P(_Refusal))
+_put_standard = _function("tl_put_standard", _u32, _size, _u64, _u64, _u64, _P(_Next), _P(_Refusal))
+_put_unit = _function("tl_put_unit", _u32, _size, _u64, _u64, _u64, _u64, _u64, _P(_Next), _P(_Refusal))
+_finish_log = _function("tl_finish_log", _u32, _size, _P(_Refusal))
 
 
 def _bytes(log) -> bytes:
@@ -214,3 +222,83 @@ def tool_figures(log) -> Figures:
     figures, based = _Figures(), _Based()
     _ask(_tool_figures, log, ctypes.byref(figures), ctypes.byref(based))
     return _as_figures(figures, based)
+
+
+# ---- what a controller calls
+
+
+def _int(name: str, value) -> int:
+    # True and False are ints to Python, and no field's value.
+    if not isinstance(value, int) or isinstance(value, bool):
+        raise TypeError(f"{name} is an int, not {type(value).__name__} {value!r}")
+    return value
+
+
+class Writer:
+    """A log written record by record: the header, then the states, standards and units that it counts, then finish().
+
+    Each method adds one record, or raises Refused and leaves the writer as it was: with 22 where a value does not fit its field, negative ones
+    included, and else with 18 where the record does not fit what is left of `size` bytes. What the values mean is tested by finish() alone. A value
+    that is no int is a TypeError.
+    """
+
+    def __init__(self, size: int = LONGEST_LOG):
+        if _int("size", size) < 0:
+            raise ValueError(f"a size is from 0 bytes, not {size}")
+        self._size = size
+        # At least one byte, since a pointer to none may be null.
+        self._buffer = ctypes.create_string_buffer(size or 1)
+        self._at = 0
+
+    def _put(self, function, **values) -> None:
+        values = [_int(name, value) for name, value in values.items()]
+        # ctypes would cut a number that does not fit 64 bits. The greatest that does fits no field either.
+        values = [value if 0 <= value < 1 << 64 else (1 << 64) - 1 for value in values]
+        position, refusal = _Next(), _Refusal()
+        if not function(self._buffer, self._size, self._at, *values, ctypes.byref(position), ctypes.byref(refusal)):
+            raise Refused(*refusal)
+        self._at = position[0]
+
+    def header(self, period: int, modules: int, states: int, standards: int, units: int) -> None:
+        """The period in ms, and how many modules, state records, standards and unit records there are."""
+        self._put(_put_header, period=period, modules=modules, states=states, standards=standards, units=units)
+
+    def state(self, module: int, code: int, time: int) -> None:
+        """From this time on the module has this sub-state code."""
+        self._put(_put_state, module=module, code=code, time=time)
+
+    def standard(self, recipe: int, start: int, theoretical: int) -> None:
+        """From this start on a unit of the recipe takes this theoretical time, in ms."""
+        self._put(_put_standard, recipe=recipe, start=start, theoretical=theoretical)
+
+    def unit(self, module: int, recipe: int, time: int, actual: int, effective: int) -> None:
+        """Units of the recipe that the module made, judged by the standard in force at this time, and how many of them are effective."""
+        self._put(_put_unit, module=module, recipe=recipe, time=time, actual=actual, effective=effective)
+
+    def written(self) -> bytes:
+        """The bytes so far, whether or not they are a log."""
+        return self._buffer[: self._at]
+
+    def finish(self) -> bytes:
+        """The log, or Refused with the reader's number. Either leaves the writer as it was."""
+        refusal = _Refusal()
+        if not _finish_log(self._buffer, self._size, self._at, ctypes.byref(refusal)):
+            raise Refused(*refusal)
+        return self.written()
+
+
+def write_log(period: int, modules: int, states, standards, units) -> bytes:
+    """A finished log of its records, or Refused. The records are tuples of what Writer's methods take, in the sequence that a log has:
+
+    states (module, code, time), standards (recipe, start, theoretical) and units (module, recipe, time, actual, effective).
+    """
+    states, standards, units = list(states), list(standards), list(units)
+    writer = Writer(10 + 6 * len(states) + 9 * len(standards) + 11 * len(units))
+    writer.header(period, modules, len(states), len(standards), len(units))
+    for record in states:
+        writer.state(*record)
+    for record in standards:
+        writer.standard(*record)
+    for record in units:
+        writer.unit(*record)
+    return writer.finish()
