@@ -1,6 +1,7 @@
-//! The packed log of a semiconductor tool, answered: state times, the quantities and efficiencies of SEMI E79, and the shift report.
+//! The packed log of a semiconductor tool, answered: state times, the quantities and efficiencies of SEMI E79, and the shift report; and written.
 //!
-//! Every function takes any bytes as a log, and answers or refuses. Times are whole milliseconds. A module is counted from 0.
+//! Every function takes any bytes as a log, and answers or refuses. Times are whole milliseconds. A module is counted from 0. A [`Writer`] makes a
+//! log record by record.
 
 pub mod c;
 
@@ -11,7 +12,7 @@ pub const LONGEST_REPORT: usize = 2494;
 /// The longest log. One byte more of a longer one is enough to decide that it is refused.
 pub const LONGEST_LOG: usize = 62618;
 
-/// Why a log is turned back. The numbers are those of the refused line.
+/// Why a log or a record is turned back. The numbers are those of the refused line.
 #[derive(Clone, Copy, Debug, PartialEq, Eq, Hash)]
 pub enum Ground {
     NoHeader = 1,
@@ -33,12 +34,13 @@ pub enum Ground {
     TooGreat,
     ShortBuffer,
     Unsorted,
+    TooWide = 22,
 }
 
 use Ground::*;
 
-/// Each ground with its trade word and what it says, by number from 1.
-pub const GROUNDS: [(Ground, &str, &str); 19] = [
+/// Each ground with its trade word and what it says, by number. Numbers are left out in between, so a number is no index.
+pub const GROUNDS: [(Ground, &str, &str); 20] = [
     (NoHeader, "no header", "under 10 bytes"),
     (Period, "period", "0 or over 366 days (31,622,400,000 ms)"),
     (Modules, "modules", "0 or over 64"),
@@ -56,11 +58,12 @@ pub const GROUNDS: [(Ground, &str, &str); 19] = [
     (NoStandard, "no standard", "none in force for a unit record"),
     (TooFast, "too fast", "a module's actual theoretical time above its production time"),
     (TooGreat, "too great", "a tool sum above 9,007,199,254,740,991 ms"),
-    (ShortBuffer, "short buffer", "report longer than the buffer"),
+    (ShortBuffer, "short buffer", "report longer than the buffer, or a record that does not fit at its position"),
     (Unsorted, "unsorted", "out of rising sequence: standards by recipe and start, units by time, module and recipe"),
+    (TooWide, "too wide", "a value does not fit its field"),
 ];
 
-/// The list that a refused record stands in.
+/// The list that a refused record stands in. The header is in none.
 #[derive(Clone, Copy, Debug, PartialEq, Eq, Hash)]
 pub enum List {
     None,
@@ -69,8 +72,8 @@ pub enum List {
     Units,
 }
 
-/// A log turned back: why, in which list, and at which place: the record's index from 0, or the module for `NoOpening`, `TooFast`, and a
-/// `StrayModule` with no list.
+/// A log or a record turned back: why, in which list, and at which place: the record's index from 0, or the module for `NoOpening`, `TooFast`, and a
+/// `StrayModule` with no list. For `TooWide` the place is 0, whichever record it is about.
 #[derive(Clone, Copy, Debug, PartialEq, Eq, Hash)]
 pub struct Refusal {
     pub ground: Ground,
@@ -78,16 +81,21 @@ pub struct Refusal {
     pub place: u64,
 }
 
+// The row of GROUNDS with this number.
+fn row(number: u64) -> (Ground, &'static str, &'static str) {
+    GROUNDS.into_iter().find(|row| row.0 as u64 == number).unwrap_or_else(|| panic!("the library's refusal {number} is not in GROUNDS"))
+}
+
 impl Refusal {
     fn new([number, list, place]: [u64; 3]) -> Self {
         let list = [List::None, List::States, List::Standards, List::Units][list as usize];
-        Refusal { ground: GROUNDS[number as usize - 1].0, list, place }
+        Refusal { ground: row(number).0, list, place }
     }
 }
 
 impl fmt::Display for Refusal {
     fn fmt(&self, f: &mut fmt::Formatter) -> fmt::Result {
-        let (ground, word, says) = GROUNDS[self.ground as usize - 1];
+        let (ground, word, says) = row(self.ground as u64);
         let list = match self.list {
             List::None => "none",
             List::States => "states",
@@ -232,4 +240,113 @@ pub fn tool_figures(log: &[u8]) -> Result<Figures, Refusal> {
     let (mut doubles, mut based, mut refusal) = ([0.0; 6], [0; 4], [0; 3]);
     let flag = unsafe { c::tl_tool_figures(log.as_ptr(), log.len(), &mut doubles, &mut based, &mut refusal) };
     figures(flag, doubles, based, refusal)
+}
+
+// Where the record ends, or why it was not added. The library's position is within the buffer, so it is a usize.
+fn position(flag: u32, next: [u64; 1], refusal: [u64; 3]) -> Result<usize, Refusal> {
+    answered(flag, refusal, next[0] as usize)
+}
+
+/// Adds a header at a position of the buffer and answers the position behind it. Where a value does not fit its field, or else the record the buffer,
+/// it is refused and no byte changes. What the values mean is left to [`finish_log`]. So it is with the other three; a [`Writer`] keeps the position.
+pub fn put_header(buf: &mut [u8], at: usize, period: u64, modules: u64, states: u64, standards: u64, units: u64) -> Result<usize, Refusal> {
+    let (mut next, mut refusal) = ([0], [0; 3]);
+    let flag = unsafe { c::tl_put_header(buf.as_mut_ptr(), buf.len(), at, period, modules, states, standards, units, &mut next, &mut refusal) };
+    position(flag, next, refusal)
+}
+
+/// Adds a state record, as [`put_header`] does a header.
+pub fn put_state(buf: &mut [u8], at: usize, module: u64, code: u64, time: u64) -> Result<usize, Refusal> {
+    let (mut next, mut refusal) = ([0], [0; 3]);
+    let flag = unsafe { c::tl_put_state(buf.as_mut_ptr(), buf.len(), at, module, code, time, &mut next, &mut refusal) };
+    position(flag, next, refusal)
+}
+
+/// Adds a standard, as [`put_header`] does a header.
+pub fn put_standard(buf: &mut [u8], at: usize, recipe: u64, start: u64, theoretical: u64) -> Result<usize, Refusal> {
+    let (mut next, mut refusal) = ([0], [0; 3]);
+    let flag = unsafe { c::tl_put_standard(buf.as_mut_ptr(), buf.len(), at, recipe, start, theoretical, &mut next, &mut refusal) };
+    position(flag, next, refusal)
+}
+
+/// Adds a unit record, as [`put_header`] does a header.
+pub fn put_unit(buf: &mut [u8], at: usize, module: u64, recipe: u64, time: u64, actual: u64, effective: u64) -> Result<usize, Refusal> {
+    let (mut next, mut refusal) = ([0], [0; 3]);
+    let flag = unsafe { c::tl_put_unit(buf.as_mut_ptr(), buf.len(), at, module, recipe, time, actual, effective, &mut next, &mut refusal) };
+    position(flag, next, refusal)
+}
+
+/// Whether the bytes before a position are a log that is accepted. Bytes from there on are not looked at.
+pub fn finish_log(buf: &[u8], at: usize) -> Result<(), Refusal> {
+    let mut refusal = [0; 3];
+    let flag = unsafe { c::tl_finish_log(buf.as_ptr(), buf.len(), at, &mut refusal) };
+    answered(flag, refusal, ())
+}
+
+/// A log written record by record into a lent buffer: the header, then the states, standards and units that it counts, then `finish`.
+///
+/// Each method adds one record, or is refused and leaves the writer as it was: `TooWide` where a value does not fit its field, else `ShortBuffer`
+/// where the record does not fit what is left of the buffer. What the values mean is tested by `finish` alone.
+///
+/// ```
+/// # fn main() -> Result<(), tool_log::Refusal> {
+/// let mut buf = [0; tool_log::LONGEST_LOG];
+/// let mut writer = tool_log::Writer::new(&mut buf);
+/// writer.header(3_600_000, 1, 2, 1, 1)?; // an hour of one module: two state records, a standard, a unit record
+/// writer.state(0, 0, 0)?; // module 0 is productive (code 0) from 0 on
+/// writer.state(0, 18, 2_700_000)?; // and under repair (code 18) for the last quarter
+/// writer.standard(3, 0, 60_000)?; // a unit of recipe 3 takes a minute
+/// writer.unit(0, 3, 2_700_000, 36, 27)?; // 36 were made, 27 of them good
+/// let log = writer.finish()?;
+/// assert_eq!(log.len(), 42);
+/// assert!(tool_log::report(log)?.ends_with("tool 0.7500 1.0000 0.8000 0.7500 0.4500\n"));
+/// # Ok(())
+/// # }
+/// ```
+#[derive(Debug)]
+pub struct Writer<'a> {
+    buf: &'a mut [u8],
+    at: usize,
+}
+
+impl<'a> Writer<'a> {
+    /// A writer at the front of the buffer. A log has at most [`LONGEST_LOG`] bytes.
+    pub fn new(buf: &'a mut [u8]) -> Self {
+        Writer { buf, at: 0 }
+    }
+
+    /// The period in ms, and how many modules, state records, standards and unit records there are.
+    pub fn header(&mut self, period: u64, modules: u64, states: u64, standards: u64, units: u64) -> Result<(), Refusal> {
+        self.at = put_header(self.buf, self.at, period, modules, states, standards, units)?;
+        Ok(())
+    }
+
+    /// From this time on the module has this sub-state code.
+    pub fn state(&mut self, module: u64, code: u64, time: u64) -> Result<(), Refusal> {
+        self.at = put_state(self.buf, self.at, module, code, time)?;
+        Ok(())
+    }
+
+    /// From this start on a unit of the recipe takes this theoretical time, in ms.
+    pub fn standard(&mut self, recipe: u64, start: u64, theoretical: u64) -> Result<(), Refusal> {
+        self.at = put_standard(self.buf, self.at, recipe, start, theoretical)?;
+        Ok(())
+    }
+
+    /// Units of the recipe that the module made, judged by the standard in force at this time, and how many of them are effective.
+    pub fn unit(&mut self, module: u64, recipe: u64, time: u64, actual: u64, effective: u64) -> Result<(), Refusal> {
+        self.at = put_unit(self.buf, self.at, module, recipe, time, actual, effective)?;
+        Ok(())
+    }
+
+    /// The bytes so far, whether or not they are a log.
+    pub fn written(&self) -> &[u8] {
+        &self.buf[..self.at]
+    }
+
+    /// The log, or the reader's refusal.
+    pub fn finish(self) -> Result<&'a [u8], Refusal> {
+        finish_log(self.buf, self.at)?;
+        Ok(&self.buf[..self.at])
+    }
 }

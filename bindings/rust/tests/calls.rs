@@ -1,4 +1,4 @@
-//! Every call on logs packed here: case W, a log with no uptime, and bytes that are refused.
+//! Every call on logs packed here: case W, a log with no uptime, and bytes that are refused; and the writing ones on records packed here too.
 
 use tool_log::*;
 
@@ -51,6 +51,7 @@ fn turned_back(log: &[u8], ground: Ground, list: List, place: u64) {
     let why = Refusal { ground, list, place };
     assert_eq!(examine(log, LONGEST_REPORT), Err(why));
     assert_eq!(examine(log, 0), Err(why));
+    assert_eq!(finish_log(log, log.len()), Err(why));
     let mut buf = [0xa5; LONGEST_REPORT];
     assert_eq!(report_into(log, &mut buf), Err(why));
     assert_eq!(report_into(log, &mut buf[..0]), Err(why));
@@ -160,8 +161,11 @@ fn damaged() {
 fn words() {
     let why = report(&case_w(604800000)).unwrap_err();
     assert_eq!(why.to_string(), "refused: 9 outside: time or start at or past the period (list units, place 2)");
-    for (i, (ground, _, _)) in GROUNDS.into_iter().enumerate() {
-        assert_eq!(ground as usize, i + 1);
+    let numbers: Vec<u8> = GROUNDS.into_iter().map(|row| row.0 as u8).collect();
+    assert_eq!(numbers, (1..=19).chain([22]).collect::<Vec<u8>>());
+    for (ground, word, says) in GROUNDS {
+        let why = Refusal { ground, list: List::None, place: 0 };
+        assert_eq!(why.to_string(), format!("refused: {} {word}: {says} (list none, place 0)", ground as u8));
     }
 }
 
@@ -171,6 +175,8 @@ fn the_header_says_the_same() {
     for (ground, word, says) in GROUNDS {
         assert!(header.contains(&format!("X({}, \"{word}\", \"{says}\")", ground as u8)));
     }
+    let rows = header.lines().filter(|line| line.starts_with("    X(") && line.matches('"').count() == 4);
+    assert_eq!(rows.count(), GROUNDS.len());
     assert!(header.contains(&format!("TL_LONGEST_REPORT {LONGEST_REPORT}\n")) && header.contains(&format!("TL_LONGEST_LOG {LONGEST_LOG}\n")));
 }
 
@@ -237,4 +243,169 @@ fn random_bytes() {
             assert!(examine(&log, 0).is_err());
         }
     }
+}
+
+// ---- writing
+
+// The adding calls by the list of their records: the list, and the widths of the fields and of what is spare.
+const KINDS: [(List, &[u32], u32); 4] = [
+    (List::None, &[35, 7, 14, 11, 13], 0),
+    (List::States, &[6, 5, 35], 2),
+    (List::Standards, &[10, 35, 27], 0),
+    (List::Units, &[6, 10, 35, 16, 16], 5),
+];
+
+// A record as it has to be packed.
+fn record(kind: usize, values: &[u64]) -> Vec<u8> {
+    let (_, widths, spare) = KINDS[kind];
+    let mut fields: Vec<(u64, u32)> = values.iter().copied().zip(widths.iter().copied()).collect();
+    fields.push((0, spare));
+    packed(&fields)
+}
+
+fn greatest(width: u32) -> u64 {
+    (1 << width) - 1
+}
+
+fn put(kind: usize, buf: &mut [u8], at: usize, values: &[u64]) -> Result<usize, Refusal> {
+    match (kind, values) {
+        (0, &[period, modules, states, standards, units]) => put_header(buf, at, period, modules, states, standards, units),
+        (1, &[module, code, time]) => put_state(buf, at, module, code, time),
+        (2, &[recipe, start, theoretical]) => put_standard(buf, at, recipe, start, theoretical),
+        (3, &[module, recipe, time, actual, effective]) => put_unit(buf, at, module, recipe, time, actual, effective),
+        _ => panic!("{values:?} for {kind}"),
+    }
+}
+
+fn put_by(writer: &mut Writer, kind: usize, values: &[u64]) -> Result<(), Refusal> {
+    match (kind, values) {
+        (0, &[period, modules, states, standards, units]) => writer.header(period, modules, states, standards, units),
+        (1, &[module, code, time]) => writer.state(module, code, time),
+        (2, &[recipe, start, theoretical]) => writer.standard(recipe, start, theoretical),
+        (3, &[module, recipe, time, actual, effective]) => writer.unit(module, recipe, time, actual, effective),
+        _ => panic!("{values:?} for {kind}"),
+    }
+}
+
+const SHORT: Refusal = Refusal { ground: Ground::ShortBuffer, list: List::None, place: 0 };
+
+// What an adding call has to do at a position of a buffer of this length: answer so, and change no other byte, on either side of the buffer too.
+fn puts(kind: usize, values: &[u64], length: usize, at: usize, expected: Result<usize, Refusal>) {
+    for fill in [0x00, 0xff, 0xa5] {
+        let mut room = [fill; 128];
+        let mut left = room;
+        if expected.is_ok() {
+            let record = record(kind, values);
+            left[32 + at..][..record.len()].copy_from_slice(&record);
+        }
+        assert_eq!(put(kind, &mut room[32..][..length], at, values), expected, "{kind} {values:?} {length} {at}");
+        assert_eq!(room, left, "{kind} {values:?} {length} {at}");
+    }
+}
+
+#[test]
+fn positions() {
+    for (kind, (_, widths, _)) in KINDS.into_iter().enumerate() {
+        let values: Vec<u64> = (1..=widths.len() as u64).collect();
+        let size = record(kind, &values).len();
+        for length in [0, size - 1, size, size + 1, 64] {
+            for at in 0..66 {
+                puts(kind, &values, length, at, if at + size <= length { Ok(at + size) } else { Err(SHORT) });
+            }
+            for less in 0..65 {
+                puts(kind, &values, length, usize::MAX - less, Err(SHORT));
+            }
+            for bit in 8..64 {
+                puts(kind, &values, length, 1 << bit, Err(SHORT));
+            }
+        }
+    }
+}
+
+#[test]
+fn widths() {
+    for (kind, (list, widths, _)) in KINDS.into_iter().enumerate() {
+        let too_wide = Err(Refusal { ground: Ground::TooWide, list, place: 0 });
+        let all: Vec<u64> = widths.iter().map(|&width| greatest(width)).collect();
+        for (i, &width) in widths.iter().enumerate() {
+            for mut values in [all.clone(), vec![0; widths.len()]] {
+                values[i] = greatest(width);
+                puts(kind, &values, 64, 3, Ok(3 + record(kind, &values).len()));
+                for value in (width..64).map(|bit| 1 << bit).chain([u64::MAX]) {
+                    values[i] = value;
+                    for at in [0, 3, 64, 65, usize::MAX] {
+                        puts(kind, &values, 64, at, too_wide);
+                        puts(kind, &values, 0, at, too_wide);
+                    }
+                }
+            }
+        }
+    }
+}
+
+#[test]
+fn finishing() {
+    let log = week();
+    let mut buf = [0xa5; 160];
+    buf[..100].copy_from_slice(&log);
+    for at in 0..=160 {
+        let ground = if at < 10 { Ground::NoHeader } else { Ground::Length };
+        let refused = Err(Refusal { ground, list: List::None, place: 0 });
+        assert_eq!(finish_log(&buf, at), if at == 100 { Ok(()) } else { refused });
+    }
+    for at in [161, 1 << 32, (1 << 32) + 100, usize::MAX - 100, usize::MAX] {
+        assert_eq!(finish_log(&buf, at), Err(SHORT));
+        assert_eq!(finish_log(&case_w(604800000), at), Err(SHORT));
+    }
+    assert_eq!(finish_log(&log, 100), Ok(()));
+    assert_eq!(finish_log(&log, 101), Err(SHORT));
+    assert_eq!(finish_log(&[], 0), Err(Refusal { ground: Ground::NoHeader, list: List::None, place: 0 }));
+    assert_eq!(finish_log(&[], 1), Err(SHORT));
+}
+
+// Case W through a writer. Ahead of each record comes one that is refused and counts as not made.
+#[test]
+fn a_log_written() {
+    let states = [[0, 0, 0], [1, 0, 0], [2, 0, 0], [2, 7, 288000000], [1, 7, 532800000], [0, 7, 540000000], [1, 18, 568800000], [0, 18, 586800000]];
+    let units = [[0, 0, 3600000, 280, 261], [1, 0, 3600000, 290, 278], [2, 0, 3600000, 150, 150]];
+    let mut records: Vec<(usize, Vec<u64>)> = vec![(0, vec![604800000, 3, 8, 1, 3])];
+    records.extend(states.map(|values| (1, values.to_vec())));
+    records.push((2, vec![0, 0, 1800000]));
+    records.extend(units.map(|values| (3, values.to_vec())));
+
+    let log = week();
+    let mut buf = [0xa5; 100];
+    let mut writer = Writer::new(&mut buf);
+    let mut length = 0;
+    for (kind, values) in records {
+        let mut wide = values.clone();
+        wide[0] = u64::MAX;
+        let too_wide = Refusal { ground: Ground::TooWide, list: KINDS[kind].0, place: 0 };
+        assert_eq!(put_by(&mut writer, kind, &wide), Err(too_wide));
+        assert_eq!(writer.written(), &log[..length]);
+        assert_eq!(put_by(&mut writer, kind, &values), Ok(()));
+        length += record(kind, &values).len();
+        assert_eq!(writer.written(), &log[..length]);
+    }
+    assert_eq!(put_by(&mut writer, 1, &[0, 0, 0]), Err(SHORT));
+    assert_eq!(writer.written(), log);
+    assert_eq!(writer.finish(), Ok(&log[..]));
+    assert_eq!(buf, log[..]);
+}
+
+#[test]
+fn a_log_not_finished() {
+    let mut buf = [0xa5; 64];
+    let refused = |ground| Err(Refusal { ground, list: List::None, place: 0 });
+    assert_eq!(Writer::new(&mut buf).finish(), refused(Ground::NoHeader));
+    let mut writer = Writer::new(&mut buf);
+    assert_eq!(writer.header(86400000, 1, 1, 0, 0), Ok(()));
+    assert_eq!(writer.finish(), refused(Ground::Length));
+    // The calls keep no state: any position is taken.
+    assert_eq!(put_state(&mut buf, 10, 0, 31, 0), Ok(16));
+    assert_eq!(finish_log(&buf, 16), Err(Refusal { ground: Ground::StrayCode, list: List::States, place: 0 }));
+    assert_eq!(put_state(&mut buf, 10, 0, 22, 0), Ok(16));
+    assert_eq!(finish_log(&buf, 16), Ok(()));
+    assert_eq!(&buf[..16], idle());
+    assert_eq!(buf[16..], [0xa5; 48]);
 }
