@@ -1,7 +1,14 @@
 #!/usr/bin/env python3
-"""Makes the sample logs beside this script. It packs the fields of document 01 by itself."""
+"""Makes the sample logs through the library's writer, beside this script or in another folder: make.py [FOLDER]"""
 
+import sys
 from pathlib import Path
+
+sys.path.append(str(Path(__file__).resolve().parent.parent / "bindings" / "python"))
+try:
+    from tool_log import Writer
+except (OSError, AttributeError) as error:  # no shared object, or one without a writer
+    sys.exit(f"{error}\nNo library to write the logs with. First: rt staticlib tool_log_c && bindings/python/build")
 
 SECOND = 1_000
 MINUTE = 60 * SECOND
@@ -18,24 +25,18 @@ REPAIR = 18
 UNWORKED_SHIFT = 22
 
 
-def pack(fields):
-    """Fields as (value, width in bits), most significant bit first."""
-    bits = "".join(format(value, f"0{width}b") for value, width in fields)
-    assert len(bits) == sum(width for _, width in fields), "a value does not fit its field"
-    return int(bits, 2).to_bytes(len(bits) // 8, "big")
-
-
 def log(period, modules, states, standards, units):
     """States (module, code, time), standards (recipe, start, ms), units (module, recipe, time,
-    actual, effective)."""
-    parts = [pack([(period, 35), (modules, 7), (len(states), 14), (len(standards), 11), (len(units), 13)])]
-    for module, code, time in states:
-        parts.append(pack([(module, 6), (code, 5), (time, 35), (0, 2)]))
-    for recipe, start, theoretical in standards:
-        parts.append(pack([(recipe, 10), (start, 35), (theoretical, 27)]))
-    for module, recipe, time, actual, effective in units:
-        parts.append(pack([(module, 6), (recipe, 10), (time, 35), (actual, 16), (effective, 16), (0, 5)]))
-    return b"".join(parts)
+    actual, effective). Not finished: some are to be refused."""
+    writer = Writer()
+    writer.header(period, modules, len(states), len(standards), len(units))
+    for record in states:
+        writer.state(*record)
+    for record in standards:
+        writer.standard(*record)
+    for record in units:
+        writer.unit(*record)
+    return writer.written()
 
 
 def hours(count):
@@ -173,6 +174,12 @@ def same_shift(states=SAME_SHIFT_STATES, standards=SAME_SHIFT_STANDARDS, units=S
     return log(8 * HOUR, 3, states, standards, units)
 
 
+def header_alone(*values):
+    writer = Writer()
+    writer.header(*values)
+    return writer.written()
+
+
 def shift(period=8 * HOUR, modules=1, states=((0, REGULAR, 0),), standards=((3, 0, MINUTE),), units=((0, 3, HOUR, 60, 58),)):
     """A shift of one module and one recipe. Nothing is wrong with it but what is given."""
     return log(period, modules, states, standards, units)
@@ -190,7 +197,7 @@ SAMPLES = {
     # One for each number from 2 to 16.
     "refused-period": lambda: shift(period=367 * DAY),
     "refused-modules": lambda: shift(modules=65),
-    "refused-counts": lambda: pack([(8 * HOUR, 35), (1, 7), (6_001, 14), (1, 11), (1, 13)]),
+    "refused-counts": lambda: header_alone(8 * HOUR, 1, 6_001, 1, 1),
     "refused-cut": lambda: case_w()[:-1],
     "refused-spare": lambda: case_w()[:-1] + bytes([case_w()[-1] | 1]),
     "refused-stray-module": lambda: shift(units=[(0, 3, HOUR, 60, 58), (1, 3, HOUR, 60, 58)]),
@@ -212,6 +219,6 @@ SAMPLES = {
 }
 
 if __name__ == "__main__":
-    folder = Path(__file__).parent
+    folder = Path(sys.argv[1]) if len(sys.argv) > 1 else Path(__file__).parent
     for name, make in SAMPLES.items():
         (folder / f"{name}.log").write_bytes(make())
