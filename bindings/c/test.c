@@ -273,7 +273,8 @@ static uint32_t put(int list, uint8_t *buf, size_t buf_len, size_t at, const uin
     }
 }
 
-/* What an adding call is lent, with guards on both sides of each array: a buffer of up to MOST bytes from bytes[GUARD] on, next[1], why[1] to why[3]. */
+/* What an adding call is lent, with guards on both sides of each array: a buffer of up to MOST bytes from bytes[GUARD] on, next[1], and why[1] to
+ * why[3]. */
 enum { GUARD = 32, MOST = 64 };
 
 struct lent {
@@ -387,7 +388,7 @@ static void positions(void)
     }
 }
 
-/* Each field at its greatest, one past it and wider still, between fields that are 0 and fields at their greatest, wherever the record is to stand. */
+/* Each field at its greatest, one past it and wider still, beside fields that are 0 and fields at their greatest, wherever the record is to stand. */
 static void widths(void)
 {
     const size_t places[5] = {0, 3, MOST, MOST + 1, SIZE_MAX};
