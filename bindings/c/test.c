@@ -28,7 +28,7 @@ static const char report[] = "module avail oper rate qual oee\n"
                              "2 1.0000 0.4762 0.9375 1.0000 0.4464\n"
                              "tool 0.9702 0.7730 0.9524 0.9569 0.6835\n";
 
-/* Case W, a record on each line, worked out by hand and not by the library. */
+/* Case W, a record on each line: the bytes of samples/case-w.log, which were packed apart from the library. */
 static const uint8_t week[100] = {
     0x04, 0x81, 0x90, 0x80, 0x00, 0xc0, 0x08, 0x00, 0x20, 0x03,
     0x00, 0x00, 0x00, 0x00, 0x00, 0x00,
