@@ -1,14 +1,14 @@
 -- The card's fields: each is one line of at most 96 bytes. Assumes nothing.
 use mathlib.Core.Path.{_≡_, refl, sym, _∙_}
+use mathlib.Core.Bool.{true, false}
 use mathlib.Core.List.{List, []}
 use Prim.Native.Nat.{ℕ, _+_, _*_, _≤_, _<_}
 use native.Mathlib.Omega.{arith}
 use lib.Dec.{T}
-use borrow.Author.Tests.{le-leb, lt-leb}
 use lib.ListN.{length, getD, List·getD-eq-default}
 use Rattle.filling.specs.Buffer.{Put, AtFront}
 use Rattle.filling.proofs.Written.{read-as, front-nothing}
-use Rattle.card.specs.Card.{card, field, rowText, explained}
+use Rattle.card.specs.Card.{card, field, onCard, rowText, explained}
 use Rattle.card.specs.Fields.{asLines, firstLine, behindLines}
 use Rattle.card.proofs.TextLines.{plain, allPlain, line-of, line-length}
 
@@ -31,7 +31,7 @@ line-put k p =
     (q, omega (arith, q .next, card-length k))
 
 -- a number that the card does not have has no fields, like 0
-card-size : length card ≡ 60
+card-size : length card ≡ 69
 unfolding card
 card-size = refl
 
@@ -39,20 +39,16 @@ no-number : getD card 0 [] ≡ []
 unfolding card
 no-number = refl
 
-pub past-card : (n j : ℕ) → 19 < n → getD card 0 [] ≡ field n j
+pub past-card : (n j : ℕ) → 22 < n → getD card 0 [] ≡ field n j
 unfolding field
 past-card n j h = no-number ∙ sym (List·getD-eq-default card [] {n = 3 * n + j} (omega (arith, card-size)))
 
 -- ---- what is said of a number
 
-pub row-none : (n : ℕ) (before : List ℕ) → n < 1 → AtFront (explained n) 512 before 0 before
+pub row-none : (n : ℕ) (before : List ℕ) → onCard n ≡ false → AtFront (explained n) 512 before 0 before
 unfolding explained
-row-none n before h = rw (lt-leb 1 n h) (front-nothing 512 before)
+row-none n before h = rw h (front-nothing 512 before)
 
-pub row-past : (n : ℕ) (before : List ℕ) → 19 < n → AtFront (explained n) 512 before 0 before
+pub row-of : (n : ℕ) {before after : List ℕ} {r : ℕ} → onCard n ≡ true → AtFront (rowText n) 512 before r after → AtFront (explained n) 512 before r after
 unfolding explained
-row-past n before h = rw (le-leb 1 n (omega arith), lt-leb n 19 h) (front-nothing 512 before)
-
-pub row-of : (n : ℕ) {before after : List ℕ} {r : ℕ} → 1 ≤ n → n ≤ 19 → AtFront (rowText n) 512 before r after → AtFront (explained n) 512 before r after
-unfolding explained
-row-of n h l p = rw (le-leb 1 n h, le-leb n 19 l) p
+row-of n h p = rw h p

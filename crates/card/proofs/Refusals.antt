@@ -1,4 +1,4 @@
--- Every refusal of a log is on the card, with a word, a meaning and what to look for. Assumes nothing.
+-- Every refusal is on the card, with a word, a meaning and what to look for. Assumes nothing.
 use mathlib.Core.Path.{_≡_, refl}
 use mathlib.Core.Bool.{Bool, true, false, _&&_, _||_}
 use mathlib.Core.List.{List, [], _∷_}
@@ -7,7 +7,7 @@ use borrow.Author.Tests.{eqb-true}
 use lib.Dec.{T, ltb, eqb}
 use lib.ListN.{length}
 use Rattle.rules.specs.declared.Refusal.{Refusal}
-use Rattle.rules.specs.Refusals.{Row, isRow, Known, logRefusals}
+use Rattle.rules.specs.Refusals.{Row, isRow, Known, logRefusals, callRefusals}
 use Rattle.card.proofs.TextLines.{both}
 use Rattle.card.specs.Card.{card, field, word, meaning, lookFor, onCard}
 
@@ -32,3 +32,7 @@ row-worded (r ∷ rs) n l h k = go (eqb n (r .number)) refl k (λ j. row-worded 
 pub refusals-worded : (x : Refusal) → Known logRefusals x → T (worded (x .number))
 unfolding allWorded worded field card
 refusals-worded x k = row-worded logRefusals (x .number) (x .list) tt k
+
+pub call-refusals-worded : (x : Refusal) → Known callRefusals x → T (worded (x .number))
+unfolding allWorded worded field card
+call-refusals-worded x k = row-worded callRefusals (x .number) (x .list) tt k

@@ -14,7 +14,7 @@ use Rattle.report.specs.Report.{decimal}
 abbrev pub row : String → String → String → List (List ℕ)
 row word meaning look = ascii word ∷ ascii meaning ∷ ascii look ∷ []
 
--- the rows by number, from 0 on; no refusal has the number 0
+-- the rows by number, from 0 on; no refusal has the numbers 0, 20 and 21
 unfoldable pub card : List (List ℕ)
 card =
     row "" "" ""
@@ -35,8 +35,11 @@ card =
     ++ row "no standard" "none in force for a unit record" "a recipe that ran ahead of its first standard"
     ++ row "too fast" "a module's actual theoretical time above its production time" "a standard that is too long, or productive time logged as something else"
     ++ row "too great" "a tool sum above 9,007,199,254,740,991 ms" "no log can reach it"
-    ++ row "short buffer" "report longer than the buffer" "lend 2,494 bytes, which hold every report"
+    ++ row "short buffer" "report longer than the buffer, or a record that does not fit at its position" "lend 2,494 bytes, which hold every report; 62,618 hold every log"
     ++ row "unsorted" "out of rising sequence: standards by recipe and start, units by time, module and recipe" "sort the list by these fields, ascending; merge unit records that agree in all three"
+    ++ row "" "" ""
+    ++ row "" "" ""
+    ++ row "too wide" "a value does not fit its field" "a value in another unit than ms, a number of the controller's own, or a count that ran on"
 
 -- field j of number n: 0 the word, 1 the meaning, 2 what to look for; empty where the card does not have the number
 unfoldable pub field : ℕ → ℕ → List ℕ
@@ -54,8 +57,9 @@ lookFor n = field n 2
 
 -- ---- the row of a number
 
+-- 22, and 1 to 19
 abbrev pub onCard : ℕ → Bool
-onCard n = leb 1 n && leb n 19
+onCard n = eqb n 22 || (leb 1 n && leb n 19)
 
 -- three lines: number and word, meaning, what to look for
 unfoldable pub rowText : ℕ → List ℕ
@@ -78,14 +82,22 @@ isModule x = eqb (x .list) noList && (eqb (x .number) 7 || (eqb (x .number) 11 |
 abbrev pub around : String → ℕ → String → List ℕ
 around before n behind = (ascii before ++ decimal n) ++ ascii behind
 
--- where: the record and its list, or the module
+-- the kind of record that has a value too wide
+unfoldable pub kind : ℕ → List ℕ
+kind list =
+    cond (eqb list ofStates) (ascii " (a state record)")
+    (cond (eqb list ofStandards) (ascii " (a standard)")
+    (cond (eqb list ofUnits) (ascii " (a unit record)") (ascii " (a header)")))
+
+-- where: the kind of record in 22, the record and its list, or the module
 unfoldable pub whereabouts : Refusal → List ℕ
-unfolding decimal
+unfolding decimal kind
 whereabouts x =
-    cond (eqb (x .list) ofStates) (around " (record " (x .place) " of the states)")
+    cond (eqb (x .number) 22) (kind (x .list))
+    (cond (eqb (x .list) ofStates) (around " (record " (x .place) " of the states)")
     (cond (eqb (x .list) ofStandards) (around " (record " (x .place) " of the standards)")
     (cond (eqb (x .list) ofUnits) (around " (record " (x .place) " of the units)")
-    (cond (isModule x) (around " (module " (x .place) ")") [])))
+    (cond (isModule x) (around " (module " (x .place) ")") []))))
 
 -- one line: the trade word, the ground and where
 unfoldable pub wordsOf : Refusal → List ℕ

@@ -5,7 +5,7 @@ ghost use Prim.Native.Nat.{_+_, _≤_, _<_};
 ghost use lib.ListN.{length, drop, getD};
 ghost use Rattle.filling.specs.Buffer.{Put, AtFront};
 ghost use Rattle.report.specs.Report.{decimal};
-ghost use Rattle.card.specs.Card.{card, field, rowText, explained, isModule, whereabouts, wordsOf};
+ghost use Rattle.card.specs.Card.{card, field, onCard, rowText, explained, isModule, kind, whereabouts, wordsOf};
 ghost use Rattle.card.specs.Fields.{firstLine, behindLine, behindLines};
 use rules::Refusal;
 
@@ -41,7 +41,7 @@ fn put_line(buf: &mut [u8], at: usize, text: &[u8], k: usize) -> usize
     filling::put_text(buf, at, &text[from..end])
 }
 
-// Line k of the card, of which every number from 0 to 19 has three: its word, its meaning and what to look for. The caller owes the room.
+// Line k of the card, of which every number from 0 to 22 has three: its word, its meaning and what to look for. The caller owes the room.
 fn put_card_line(buf: &mut [u8], at: usize, k: usize) -> usize
     requires { ⌜ at + 96 ≤ length (now buf) ⌝ }
     ensures { λ r. ⌜ Put (getD card k []) (now (buf .entry)) at r (now (buf .exit)) ⌝ }
@@ -69,8 +69,11 @@ fn put_card_line(buf: &mut [u8], at: usize, k: usize) -> usize
         no standard\nnone in force for a unit record\na recipe that ran ahead of its first standard\n\
         too fast\na module's actual theoretical time above its production time\na standard that is too long, or productive time logged as something else\n\
         too great\na tool sum above 9,007,199,254,740,991 ms\nno log can reach it\n\
-        short buffer\nreport longer than the buffer\nlend 2,494 bytes, which hold every report\n\
+        short buffer\nreport longer than the buffer, or a record that does not fit at its position\nlend 2,494 bytes, which hold every report; 62,618 hold every log\n\
         unsorted\nout of rising sequence: standards by recipe and start, units by time, module and recipe\nsort the list by these fields, ascending; merge unit records that agree in all three\n\
+        \n\n\n\
+        \n\n\n\
+        too wide\na value does not fit its field\na value in another unit than ms, a number of the controller's own, or a count that ran on\n\
         ",
         k,
     )
@@ -83,7 +86,7 @@ fn put_field(buf: &mut [u8], at: usize, n: usize, j: usize) -> usize
     ensures { λ r. ⌜ Put (field n j) (now (buf .entry)) at r (now (buf .exit)) ⌝ }
     ensures { λ r. ⌜ r ≤ at + 96 ⌝ }
 {
-    if 19 < n {
+    if 22 < n {
         put_card_line(buf, at, 0)
     } else {
         put_card_line(buf, at, 3 * n + j)
@@ -113,17 +116,20 @@ fn put_row(buf: &mut [u8], n: usize) -> usize
     filling::put_text(buf, look_for, b"\n")
 }
 
+fn is_on_card(n: usize) -> bool
+    ensures { λ r. ⌜ r ≡ onCard n ⌝ }
+{
+    n == 22 || (1 <= n && n <= 19)
+}
+
 // Writes the row of number n to the front of the buffer and answers its length: 0, and no byte changed, where the card does not have the number.
 pub fn explain(n: usize, buf: &mut [u8; 512]) -> usize
     ensures { λ r. ⌜ AtFront (explained n) 512 (now (buf .entry)) r (now (buf .exit)) ⌝ }
 {
-    if n < 1 {
-        return 0;
+    if is_on_card(n) {
+        return put_row(buf, n);
     }
-    if 19 < n {
-        return 0;
-    }
-    put_row(buf, n)
+    0
 }
 
 // A number between two texts. The caller owes the room.
@@ -142,12 +148,33 @@ fn is_module(x: Refusal) -> bool
     x.list == 0 && (x.number == 7 || (x.number == 11 || x.number == 16))
 }
 
-// Where a refusal points to: the record and its list, or the module. The caller owes the room.
+// The kind of record that has a value too wide. The caller owes the room.
+fn put_kind(buf: &mut [u8], at: usize, list: usize) -> usize
+    requires { ⌜ at + 50 ≤ length (now buf) ⌝ }
+    ensures { λ r. ⌜ Put (kind list) (now (buf .entry)) at r (now (buf .exit)) ⌝ }
+    ensures { λ r. ⌜ r ≤ at + 50 ⌝ }
+{
+    if list == 1 {
+        return filling::put_text(buf, at, b" (a state record)");
+    }
+    if list == 2 {
+        return filling::put_text(buf, at, b" (a standard)");
+    }
+    if list == 3 {
+        return filling::put_text(buf, at, b" (a unit record)");
+    }
+    filling::put_text(buf, at, b" (a header)")
+}
+
+// Where a refusal points to: the kind of record, the record and its list, or the module. The caller owes the room.
 fn put_whereabouts(buf: &mut [u8], at: usize, x: Refusal) -> usize
     requires { ⌜ at + 50 ≤ length (now buf) ⌝ }
     ensures { λ r. ⌜ Put (whereabouts x) (now (buf .entry)) at r (now (buf .exit)) ⌝ }
     ensures { λ r. ⌜ r ≤ at + 50 ⌝ }
 {
+    if x.number == 22 {
+        return put_kind(buf, at, x.list);
+    }
     if x.list == 1 {
         return put_around(buf, at, b" (record ", x.place, b" of the states)");
     }

@@ -1,4 +1,4 @@
--- The table of refusals, document 01's with R-1's 19: which list comes with which number.
+-- The tables of refusals, document 01's with R-1's 19 and R-2's 22: which list comes with which number.
 -- Definitions only.
 use Prim.Native.Nat.{ℕ}
 use mathlib.Core.Bool.{Bool, false, _&&_, _||_}
@@ -25,6 +25,10 @@ logRefusals =
     ∷ row 9 ofStandards ∷ row 12 ofStandards ∷ row 13 ofStandards ∷ row 19 ofStandards
     ∷ row 6 ofUnits ∷ row 7 ofUnits ∷ row 9 ofUnits ∷ row 14 ofUnits ∷ row 15 ofUnits ∷ row 19 ofUnits
     ∷ row 16 noList ∷ row 17 noList ∷ []
+
+-- those of the calls themselves: a module that an accepted log does not have, what does not fit its buffer, and a value that does not fit its field
+abbrev pub callRefusals : List Row
+callRefusals = row 7 noList ∷ row 18 noList ∷ row 22 noList ∷ row 22 ofStates ∷ row 22 ofStandards ∷ row 22 ofUnits ∷ []
 
 abbrev pub isRow : List Row → ℕ → ℕ → Bool
 isRow [] n l = false

@@ -1,11 +1,11 @@
 -- An adding call from its parts: refused for a value, refused for room, or the record's bytes put; and the finishing call.
 -- Assumes nothing.
-use mathlib.Core.Path.{_≡_, refl, sym, ap, _∙_}
+use mathlib.Core.Path.{_≡_, refl, sym, ap, _∙_, subst}
 use mathlib.Core.Bool.{Bool, true, false}
 use mathlib.Core.List.{List}
 use Prim.Native.Nat.{ℕ, _+_, _≤_, _<_}
 use native.Mathlib.Omega.{arith}
-use lib.Dec.{ltb}
+use lib.Dec.{T, ltb}
 use lib.ListN.{length, take}
 use borrow.Author.Tests.{lt-ltb, le-ltb, ltb-true, ltb-false}
 use Rattle.bits.specs.Put.{Fit}
@@ -18,6 +18,7 @@ use Rattle.rules.specs.Grounds.{ground, _then_}
 use Rattle.rules.proofs.FirstGround.{refused-not, not-met}
 use Rattle.rules.proofs.Given.{Apart, given-by}
 use Rattle.rules.specs.Verdict.{verdict}
+use Rattle.rules.specs.Refusals.{isRow, Known, callRefusals}
 use Rattle.rules.proofs.KnownRefusals.{log-refusal}
 use Rattle.writing.specs.declared.PositionAnswer.{PositionAnswer}
 use Rattle.writing.specs.declared.PositionAnswer.the-variants as position
@@ -53,6 +54,11 @@ module _ (e : Entry) (before : List ℕ) (at : ℕ) where
       go true p b q m = OfAdding.too-wide p (cc)
       go false p true q m = OfAdding.no-room (fits (e .slots) p) (ltb-true (length before) (at + e .size) q) (cc)
       go false p false q m = absurd (refused-not (sym m))
+
+  -- each has a number and a list of the table, as the four kinds of record do
+  pub adding-known : T (isRow callRefusals 22 (e .list)) → (x : Refusal) → OfAdding e (length before) at x → Known callRefusals x
+  adding-known h x (OfAdding.too-wide w q) = subst (Known callRefusals) (sym q) h
+  adding-known h x (OfAdding.no-room f l q) = subst (Known callRefusals) (sym q) tt
 
   -- what is above the fields is more than nothing
   pub not-added : (r : PositionAnswer) → 0 < excess (e .slots) → r ≡ position.Refused (record { number = 22; list = e .list; place = 0 }) → Added e before at r before
