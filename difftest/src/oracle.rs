@@ -8,9 +8,9 @@ const GREATEST_SUM: u64 = 9_007_199_254_740_991;
 // ---------------------------------------------------------------- reading
 
 /// Reads fields bit by bit, most significant first.
-struct BitReader<'a> {
-    bytes: &'a [u8],
-    position: usize,
+pub(crate) struct BitReader<'a> {
+    pub(crate) bytes: &'a [u8],
+    pub(crate) position: usize,
 }
 
 impl BitReader<'_> {
@@ -21,7 +21,7 @@ impl BitReader<'_> {
         u64::from(bit)
     }
 
-    fn number(&mut self, width: usize) -> u64 {
+    pub(crate) fn number(&mut self, width: usize) -> u64 {
         let mut number = 0;
         for _ in 0..width {
             number = 2 * number + self.bit();

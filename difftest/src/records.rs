@@ -50,7 +50,76 @@ pub struct UnitRecord {
     pub spare: u64,
 }
 
-/// Why a log is turned back: number, list and place of document 01.
+/// What is given to a call that adds a record: its values in the sequence of its fields. Spare bits are not given.
+#[derive(Clone, Copy, Debug, PartialEq, Eq)]
+pub enum Record {
+    /// Period, modules, states, standards, units.
+    Header([u64; 5]),
+    /// Module, code, time.
+    State([u64; 3]),
+    /// Recipe, start, theoretical.
+    Standard([u64; 3]),
+    /// Module, recipe, time, actual, effective.
+    Unit([u64; 5]),
+}
+
+impl Record {
+    pub fn values(&self) -> &[u64] {
+        match self {
+            Record::Header(values) | Record::Unit(values) => values,
+            Record::State(values) | Record::Standard(values) => values,
+        }
+    }
+
+    pub fn values_mut(&mut self) -> &mut [u64] {
+        match self {
+            Record::Header(values) | Record::Unit(values) => values,
+            Record::State(values) | Record::Standard(values) => values,
+        }
+    }
+
+    /// Bits of each field that a value is given for.
+    pub fn widths(&self) -> &'static [u32] {
+        match self {
+            Record::Header(_) => &[35, 7, 14, 11, 13],
+            Record::State(_) => &[6, 5, 35],
+            Record::Standard(_) => &[10, 35, 27],
+            Record::Unit(_) => &[6, 10, 35, 16, 16],
+        }
+    }
+
+    /// Spare bits, which end the record.
+    pub fn spare(&self) -> u32 {
+        match self {
+            Record::Header(_) | Record::Standard(_) => 0,
+            Record::State(_) => 2,
+            Record::Unit(_) => 5,
+        }
+    }
+
+    /// Length in bytes.
+    pub fn length(&self) -> usize {
+        let bytes = match self {
+            Record::Header(_) => HEADER_BYTES,
+            Record::State(_) => STATE_BYTES,
+            Record::Standard(_) => STANDARD_BYTES,
+            Record::Unit(_) => UNIT_BYTES,
+        };
+        bytes as usize
+    }
+
+    /// The list of a refusal that points to it.
+    pub fn list(&self) -> u64 {
+        match self {
+            Record::Header(_) => NO_LIST,
+            Record::State(_) => STATES,
+            Record::Standard(_) => STANDARDS,
+            Record::Unit(_) => UNITS,
+        }
+    }
+}
+
+/// Why a log or a call is turned back: number, list and place of document 01.
 #[derive(Clone, Copy, Debug, PartialEq, Eq, PartialOrd, Ord)]
 pub struct Refusal {
     pub number: u64,

@@ -1,7 +1,8 @@
-//! Makes logs from a seed: valid ones of every shape and damaged ones of every kind.
+//! Makes logs from a seed: valid ones of every shape and damaged ones of every kind; and runs of calls that write them.
 
 mod faults;
 mod raw;
+pub mod runs;
 mod sequences;
 mod valid;
 
