@@ -1,20 +1,18 @@
 //! Counts what a run met, so that a generator that misses a refusal shows.
 
-use crate::records::{Refusal, STANDARDS, UNITS};
+use crate::records::*;
 use std::collections::BTreeMap;
 use std::fmt;
 
+/// How many were accepted, and how many refused by number and list.
 #[derive(Default)]
-pub struct Tally {
-    pub logs: u64,
-    pub accepted: u64,
+pub struct Verdicts {
+    accepted: u64,
     refused: BTreeMap<(u64, u64), u64>,
-    pub short_buffers: u64,
 }
 
-impl Tally {
+impl Verdicts {
     pub fn count<T>(&mut self, verdict: &Result<T, Refusal>) {
-        self.logs += 1;
         match verdict {
             Ok(_) => self.accepted += 1,
             Err(refusal) => {
@@ -26,16 +24,48 @@ impl Tally {
         }
     }
 
+    fn met(&self, number: u64, list: u64) -> bool {
+        self.refused.contains_key(&(number, list))
+    }
+
     /// The numbers 1 to 16 and 19 that no log met, 19 where it was not met in both of its lists.
     /// 17 cannot be met: after 16 no sum passes its bound.
-    pub fn never_met(&self) -> Vec<u64> {
+    fn never_met_of_logs(&self) -> Vec<u64> {
         let met = |number: &u64| self.refused.keys().any(|(other, _)| other == number);
-        let unsorted = |list| self.refused.contains_key(&(19, list));
-        let missed_19 = (!unsorted(STANDARDS) || !unsorted(UNITS)).then_some(19);
+        let missed_19 = (!self.met(19, STANDARDS) || !self.met(19, UNITS)).then_some(19);
         (1..=16)
             .filter(|number| !met(number))
             .chain(missed_19)
             .collect()
+    }
+
+    fn summary(&self, what: &str) -> String {
+        let refused: u64 = self.refused.values().sum();
+        format!(
+            "{} {what}, {} accepted, {refused} refused",
+            self.accepted + refused,
+            self.accepted,
+        )
+    }
+}
+
+#[derive(Default)]
+pub struct Tally {
+    pub logs: Verdicts,
+    pub short_buffers: u64,
+    /// Of the calls that write.
+    pub adding: Verdicts,
+    pub finishing: Verdicts,
+}
+
+impl Tally {
+    pub fn count<T>(&mut self, verdict: &Result<T, Refusal>) {
+        self.logs.count(verdict);
+    }
+
+    /// The numbers of the reader that no log met.
+    pub fn never_met(&self) -> Vec<u64> {
+        self.logs.never_met_of_logs()
     }
 
     /// The same, and 18 where no buffer was too short.
@@ -47,18 +77,46 @@ impl Tally {
         };
         self.never_met().into_iter().chain(short).collect()
     }
+
+    /// What no adding call met: 22 of each list, 18, and acceptance.
+    pub fn never_met_in_adding(&self) -> Vec<String> {
+        let too_wide = [NO_LIST, STATES, STANDARDS, UNITS].map(|list| (22, list));
+        let due = too_wide.into_iter().chain([(18, NO_LIST)]);
+        let accepted = (self.adding.accepted == 0).then(|| String::from("accepted"));
+        due.filter(|(number, list)| !self.adding.met(*number, *list))
+            .map(|(number, list)| format!("{number} list {list}"))
+            .chain(accepted)
+            .collect()
+    }
+
+    /// What no finishing call met: the numbers of the reader, 18, and acceptance.
+    pub fn never_met_in_finishing(&self) -> Vec<String> {
+        let past_buffer = (!self.finishing.met(18, NO_LIST)).then_some(18);
+        let numbers = self.finishing.never_met_of_logs();
+        let accepted = (self.finishing.accepted == 0).then(|| String::from("accepted"));
+        let missed = numbers.into_iter().chain(past_buffer);
+        missed
+            .map(|number| number.to_string())
+            .chain(accepted)
+            .collect()
+    }
+
+    /// The calls that write.
+    pub fn writing(&self) -> String {
+        let mut text = self.adding.summary("adding calls") + "\n";
+        for ((number, list), count) in &self.adding.refused {
+            text += &format!("refused {number} list {list}: {count} adding calls\n");
+        }
+        text += &(self.finishing.summary("finishing calls") + "\n");
+        let past_buffer = self.finishing.refused.get(&(18, NO_LIST)).unwrap_or(&0);
+        text + &format!("refused 18 list 0: {past_buffer} finishing calls\n")
+    }
 }
 
 impl fmt::Display for Tally {
     fn fmt(&self, f: &mut fmt::Formatter) -> fmt::Result {
-        writeln!(
-            f,
-            "{} logs, {} accepted, {} refused",
-            self.logs,
-            self.accepted,
-            self.logs - self.accepted
-        )?;
-        for ((number, list), count) in &self.refused {
+        writeln!(f, "{}", self.logs.summary("logs"))?;
+        for ((number, list), count) in &self.logs.refused {
             writeln!(f, "refused {number:>2} list {list}: {count}")?;
         }
         Ok(())
