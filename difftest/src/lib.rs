@@ -15,3 +15,5 @@ pub mod writing;
 pub mod comparison;
 #[cfg(feature = "library")]
 pub mod library;
+#[cfg(feature = "library")]
+pub mod writing_comparison;

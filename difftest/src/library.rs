@@ -1,5 +1,6 @@
 //! The linked library, called safely. Arrays go in filled, so that what a refusal leaves shows.
 
+use crate::records::Record;
 use tool_log::c;
 
 /// Whose sums are asked for.
@@ -92,6 +93,83 @@ pub fn figures(log: &[u8], whose: Whose) -> Answer<FiguresAndBases> {
     Answer {
         answered,
         values: (figures, based),
+        refusal,
+    }
+}
+
+/// Adds a record to the buffer at the position; the next writing position.
+pub fn put(buffer: &mut [u8], position: usize, record: &Record) -> Answer<[u64; 1]> {
+    let (mut next, mut refusal) = ([UNTOUCHED; 1], [UNTOUCHED; 3]);
+    let (start, length) = (buffer.as_mut_ptr(), buffer.len());
+    let answered = match *record {
+        Record::Header([period, modules, states, standards, units]) => unsafe {
+            c::tl_put_header(
+                start,
+                length,
+                position,
+                period,
+                modules,
+                states,
+                standards,
+                units,
+                &mut next,
+                &mut refusal,
+            )
+        },
+        Record::State([module, code, time]) => unsafe {
+            c::tl_put_state(
+                start,
+                length,
+                position,
+                module,
+                code,
+                time,
+                &mut next,
+                &mut refusal,
+            )
+        },
+        Record::Standard([recipe, start_time, theoretical]) => unsafe {
+            c::tl_put_standard(
+                start,
+                length,
+                position,
+                recipe,
+                start_time,
+                theoretical,
+                &mut next,
+                &mut refusal,
+            )
+        },
+        Record::Unit([module, recipe, time, actual, effective]) => unsafe {
+            c::tl_put_unit(
+                start,
+                length,
+                position,
+                module,
+                recipe,
+                time,
+                actual,
+                effective,
+                &mut next,
+                &mut refusal,
+            )
+        },
+    };
+    Answer {
+        answered,
+        values: next,
+        refusal,
+    }
+}
+
+/// Tests the bytes of the buffer before the position.
+pub fn finish(buffer: &[u8], position: usize) -> Answer<()> {
+    let mut refusal = [UNTOUCHED; 3];
+    let (start, length) = (buffer.as_ptr(), buffer.len());
+    let answered = unsafe { c::tl_finish_log(start, length, position, &mut refusal) };
+    Answer {
+        answered,
+        values: (),
         refusal,
     }
 }

@@ -1,12 +1,14 @@
-//! Compares the linked library with the oracle on the generator's logs.
+//! Compares the linked library with the oracle on the generator's logs and on runs of calls that write them.
 //!
 //! harness SEED COUNT
 
 use difftest::arguments::two_numbers;
 use difftest::comparison::Comparison;
-use difftest::generator::{make, Expected};
+use difftest::generator::{make, runs, Expected};
 use difftest::oracle::account;
 use difftest::tally::Tally;
+use difftest::writing_comparison::first_difference;
+use std::fmt::Debug;
 use std::process::ExitCode;
 
 /// Lines of differences that are printed, and the longest log that a line shows whole.
@@ -41,6 +43,9 @@ fn main() -> ExitCode {
                 "the oracle differs from the generator's {expected:?}"
             )),
         }
+        for run in runs::make(seed, index, log, verdict.is_ok()) {
+            lines.extend(first_difference(&run, offset, &mut tally));
+        }
         for line in lines {
             if differences < SHOWN_DIFFERENCES {
                 println!("seed {seed} log {index}: {line}; log {}", shown(log));
@@ -53,12 +58,25 @@ fn main() -> ExitCode {
         "refused 18 list 0: {} verdicts on a short buffer",
         tally.short_buffers
     );
-    let missed = tally.never_met_with_buffers();
-    if !missed.is_empty() {
-        println!("never met: {missed:?}");
-    }
+    print!("{}", tally.writing());
+    let numbers = tally.never_met_with_buffers();
+    let all_met = [
+        never_met("by a log", &numbers),
+        never_met("by an adding call", &tally.never_met_in_adding()),
+        never_met("by a finishing call", &tally.never_met_in_finishing()),
+    ]
+    .iter()
+    .all(|missed| !missed);
     println!("{count} logs compared, {differences} differences");
-    ExitCode::from(u8::from(differences > 0 || !missed.is_empty()))
+    ExitCode::from(u8::from(differences > 0 || !all_met))
+}
+
+/// Prints what was missed; whether anything was.
+fn never_met<T: Debug>(by: &str, missed: &[T]) -> bool {
+    if !missed.is_empty() {
+        println!("never met {by}: {missed:?}");
+    }
+    !missed.is_empty()
 }
 
 fn shown(log: &[u8]) -> String {
