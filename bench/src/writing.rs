@@ -78,6 +78,7 @@ impl Writer<'_> {
 
 impl Calls {
     /// Writes a log from position 0 on; its length, 0 where a call is refused.
+    #[inline(never)]
     pub fn write(&self, log: &Log, buffer: &mut [u8]) -> usize {
         let mut writer = Writer {
             buffer,
@@ -142,6 +143,7 @@ fn set<const N: usize>(record: &mut [u8; N], from: usize, word: u64) {
     record[from..from + 8].copy_from_slice(&word.to_be_bytes());
 }
 
+#[inline(never)]
 unsafe extern "C" fn put_header(
     buf: *mut u8,
     buf_len: usize,
@@ -169,6 +171,7 @@ unsafe extern "C" fn put_header(
     added(at, 10, next, refusal)
 }
 
+#[inline(never)]
 unsafe extern "C" fn put_state(
     buf: *mut u8,
     buf_len: usize,
@@ -193,6 +196,7 @@ unsafe extern "C" fn put_state(
     added(at, 6, next, refusal)
 }
 
+#[inline(never)]
 unsafe extern "C" fn put_standard(
     buf: *mut u8,
     buf_len: usize,
@@ -215,6 +219,7 @@ unsafe extern "C" fn put_standard(
     added(at, 9, next, refusal)
 }
 
+#[inline(never)]
 unsafe extern "C" fn put_unit(
     buf: *mut u8,
     buf_len: usize,
