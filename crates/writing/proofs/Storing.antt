@@ -24,7 +24,7 @@ use Rattle.writing.specs.declared.PositionAnswer.{PositionAnswer}
 use Rattle.writing.specs.declared.PositionAnswer.the-variants as position
 use Rattle.writing.specs.Writing.{Entry, entryBytes, anyTooWide, addVerdict, ifAccepted, addBuffer, OfAdding, Added, finishVerdict, OfFinishing, Finished}
 use Rattle.writing.specs.Storing.{roomVerdict, Stored}
-use Rattle.writing.proofs.Fitting.{excess, fits, wide-excess, none-too-wide}
+use Rattle.writing.proofs.Fitting.{fits, none-too-wide}
 
 -- ---- where every value fits
 
@@ -60,17 +60,16 @@ module _ (e : Entry) (before : List ℕ) (at : ℕ) where
   adding-known h x (OfAdding.too-wide w q) = subst (Known callRefusals) (sym q) h
   adding-known h x (OfAdding.no-room f l q) = subst (Known callRefusals) (sym q) tt
 
-  -- what is above the fields is more than nothing
-  pub not-added : (r : PositionAnswer) → 0 < excess (e .slots) → r ≡ position.Refused (record { number = 22; list = e .list; place = 0 }) → Added e before at r before
+  -- a value does not fit
+  pub not-added : (r : PositionAnswer) → anyTooWide (e .slots) ≡ true → r ≡ position.Refused (record { number = 22; list = e .list; place = 0 }) → Added e before at r before
   unfolding addVerdict addBuffer
-  not-added r h q =
-      let wide = wide-excess (e .slots) h in
+  not-added r wide q =
       record {
         given = given-by position-apart _ _ _ _ (Refused (record { number = 22; list = e .list; place = 0 })) (at + e .size) r q (rw wide) (λ a. refl) (λ a. absurd (refused-not a)) adding-refusal;
         bytes = rw wide;
       }
 
-  -- it is nothing, and the record's bytes are stored
+  -- each does, and the record's bytes are stored
   pub added : (bytes : List ℕ) (r : PositionAnswer) (after : List ℕ) → Fit (e .slots) → entryBytes e ≡ bytes → Stored bytes before at r after → Added e before at r after
   unfolding addVerdict addBuffer
   added bytes r after fit same s =

@@ -3,12 +3,21 @@
 use mathlib.Core.Path.{_≡_}
 use Prim.Native.Nat.{ℕ, _+_, _*_, _/_, _%_, _^_, _<_}
 use native.Mathlib.Omega.{arith}
-use Rattle.writing.specs.Writing.{headerEntry, standardEntry, unitEntry}
+use Rattle.writing.specs.Writing.{headerEntry, stateEntry, standardEntry, unitEntry}
 use Rattle.writing.proofs.Bytes.{valueOf}
 
--- a sum's first part is below what the sum is below
-pub part-lt : (x y n : ℕ) → x + y < n → x < n
-part-lt x y n h = omega arith
+-- each part of a sum is below what the sum is below
+pub first-lt : (x y n : ℕ) → x + y < n → x < n
+first-lt x y n h = omega arith
+
+pub second-lt : (x y n : ℕ) → x + y < n → y < n
+second-lt x y n h = omega arith
+
+pub state-lt : (m c t : ℕ) → m < 2 ^ 6 → c < 2 ^ 5 → t < 2 ^ 35 → m * 2 ^ 42 + c * 2 ^ 37 + t * 2 ^ 2 < 2 ^ 64
+state-lt m c t h k l = omega arith
+
+pub state-value : (m c t : ℕ) → m * 2 ^ 42 + c * 2 ^ 37 + t * 2 ^ 2 ≡ valueOf (stateEntry m c t .slots)
+state-value m c t = omega arith
 
 pub standard-lt : (r s t : ℕ) → r < 2 ^ 10 → s < 2 ^ 35 → t < 2 ^ 27 → r * 2 ^ 54 + s * 2 ^ 19 + t / 2 ^ 8 < 2 ^ 64
 standard-lt r s t h k l = omega arith
@@ -22,6 +31,9 @@ standard-second r s t = omega arith
 pub unit-lt : (m r t a : ℕ) → m < 2 ^ 6 → r < 2 ^ 10 → t < 2 ^ 35 → a < 2 ^ 16 → m * 2 ^ 58 + r * 2 ^ 48 + t * 2 ^ 13 + a / 2 ^ 3 < 2 ^ 64
 unit-lt m r t a h k l n = omega arith
 
+pub unit-tail-lt : (a e : ℕ) → a < 2 ^ 16 → e < 2 ^ 16 → a * 2 ^ 21 + e * 2 ^ 5 < 2 ^ 64
+unit-tail-lt a e h k = omega arith
+
 pub unit-first : (m r t a e : ℕ) → e < 2 ^ 16 → m * 2 ^ 58 + r * 2 ^ 48 + t * 2 ^ 13 + a / 2 ^ 3 ≡ valueOf (unitEntry m r t a e .slots) / 2 ^ 24
 unit-first m r t a e h = omega arith
 
@@ -30,6 +42,9 @@ unit-second m r t a e = omega arith
 
 pub header-lt : (p m s d : ℕ) → p < 2 ^ 35 → m < 2 ^ 7 → s < 2 ^ 14 → d < 2 ^ 11 → p * 2 ^ 29 + m * 2 ^ 22 + s * 2 ^ 8 + d / 2 ^ 3 < 2 ^ 64
 header-lt p m s d h k l n = omega arith
+
+pub header-tail-lt : (d u : ℕ) → d < 2 ^ 11 → u < 2 ^ 13 → d * 2 ^ 13 + u < 2 ^ 64
+header-tail-lt d u h k = omega arith
 
 pub header-first : (p m s d u : ℕ) → u < 2 ^ 13 → p * 2 ^ 29 + m * 2 ^ 22 + s * 2 ^ 8 + d / 2 ^ 3 ≡ valueOf (headerEntry p m s d u .slots) / 2 ^ 16
 header-first p m s d u h = omega arith

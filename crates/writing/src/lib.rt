@@ -4,7 +4,7 @@ ghost use mathlib.Core.Path.{_≡_};
 ghost use mathlib.Core.List.{_++_};
 ghost use Prim.Native.Nat.{_-_, _≤_, _<_};
 ghost use Rattle.filling.specs.Buffer.{bigEndian};
-ghost use Rattle.writing.specs.Writing.{headerEntry, stateEntry, standardEntry, unitEntry, Added, Finished};
+ghost use Rattle.writing.specs.Writing.{headerEntry, stateEntry, standardEntry, unitEntry, anyTooWide, Added, Finished};
 ghost use Rattle.writing.specs.Storing.{Stored};
 use rules::Refusal;
 use rules::Verdict;
@@ -44,7 +44,35 @@ fn add(buf: &mut [u8], at: usize, m: usize, first: u64, n: usize, second: u64) -
     PositionAnswer::Answered(filling::put_number(buf, middle, n, second))
 }
 
-// Adds a header. In each of the four calls a quotient above 0 is a value that does not fit its field, and the sum is far from overflowing.
+// Whether a value does not fit its field, for each kind of record.
+fn header_too_wide(period: u64, modules: u64, states: u64, standards: u64, units: u64) -> bool
+    ensures { λ r. ⌜ r ≡ anyTooWide (headerEntry period modules states standards units .slots) ⌝ }
+{
+    0x8_0000_0000 <= period
+        || (0x80 <= modules || (0x4000 <= states || (0x800 <= standards || 0x2000 <= units)))
+}
+
+fn state_too_wide(module: u64, code: u64, time: u64) -> bool
+    ensures { λ r. ⌜ r ≡ anyTooWide (stateEntry «module» code time .slots) ⌝ }
+{
+    0x40 <= module || (0x20 <= code || 0x8_0000_0000 <= time)
+}
+
+fn standard_too_wide(recipe: u64, start: u64, theoretical: u64) -> bool
+    ensures { λ r. ⌜ r ≡ anyTooWide (standardEntry recipe start theoretical .slots) ⌝ }
+{
+    0x400 <= recipe || (0x8_0000_0000 <= start || 0x800_0000 <= theoretical)
+}
+
+fn unit_too_wide(module: u64, recipe: u64, time: u64, actual: u64, effective: u64) -> bool
+    ensures { λ r. ⌜ r ≡ anyTooWide (unitEntry «module» recipe time actual effective .slots) ⌝ }
+{
+    0x40 <= module
+        || (0x400 <= recipe
+            || (0x8_0000_0000 <= time || (0x1_0000 <= actual || 0x1_0000 <= effective)))
+}
+
+// Adds a header.
 pub fn put_header(
     buf: &mut [u8],
     at: usize,
@@ -56,13 +84,7 @@ pub fn put_header(
 ) -> PositionAnswer
     ensures { λ r. ⌜ Added (headerEntry period modules states standards units) (now (buf .entry)) at r (now (buf .exit)) ⌝ }
 {
-    if period / 0x8_0000_0000
-        + modules / 0x80
-        + states / 0x4000
-        + standards / 0x800
-        + units / 0x2000
-        > 0
-    {
+    if header_too_wide(period, modules, states, standards, units) {
         return refused(22, 0);
     }
     let first = period * 0x2000_0000 + modules * 0x40_0000 + states * 0x100 + standards / 8;
@@ -74,7 +96,7 @@ pub fn put_header(
 pub fn put_state(buf: &mut [u8], at: usize, module: u64, code: u64, time: u64) -> PositionAnswer
     ensures { λ r. ⌜ Added (stateEntry «module» code time) (now (buf .entry)) at r (now (buf .exit)) ⌝ }
 {
-    if module / 0x40 + code / 0x20 + time / 0x8_0000_0000 > 0 {
+    if state_too_wide(module, code, time) {
         return refused(22, 1);
     }
     let all = module * 0x400_0000_0000 + code * 0x20_0000_0000 + time * 4;
@@ -91,7 +113,7 @@ pub fn put_standard(
 ) -> PositionAnswer
     ensures { λ r. ⌜ Added (standardEntry recipe start theoretical) (now (buf .entry)) at r (now (buf .exit)) ⌝ }
 {
-    if recipe / 0x400 + start / 0x8_0000_0000 + theoretical / 0x800_0000 > 0 {
+    if standard_too_wide(recipe, start, theoretical) {
         return refused(22, 2);
     }
     let first = recipe * 0x40_0000_0000_0000 + start * 0x8_0000 + theoretical / 0x100;
@@ -110,13 +132,7 @@ pub fn put_unit(
 ) -> PositionAnswer
     ensures { λ r. ⌜ Added (unitEntry «module» recipe time actual effective) (now (buf .entry)) at r (now (buf .exit)) ⌝ }
 {
-    if module / 0x40
-        + recipe / 0x400
-        + time / 0x8_0000_0000
-        + actual / 0x1_0000
-        + effective / 0x1_0000
-        > 0
-    {
+    if unit_too_wide(module, recipe, time, actual, effective) {
         return refused(22, 3);
     }
     let first = module * 0x400_0000_0000_0000
