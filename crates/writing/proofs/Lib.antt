@@ -1,3 +1,4 @@
+pub mod Cases
 pub mod Fitting
 pub mod Bytes
 pub mod Values
