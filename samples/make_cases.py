@@ -1,7 +1,8 @@
 #!/usr/bin/env python3
 """Makes the input of the program `cases` and what it must print: the edge cases of document 01 and of R-1, the printed figures of 002 and
 of 003's worked example, and inputs that are no log, as reports and through the calls for state times, quantities and doubles. What each
-must give is written here from those papers: hours as 002 prints them, doubles from exact fractions. Nothing is taken from the library."""
+must give is written here from those papers: hours as 002 prints them, doubles from exact fractions. The logs are written by the library, as
+make.py's are; of what they must give nothing is taken from it."""
 
 import struct
 from fractions import Fraction
