@@ -1,4 +1,4 @@
--- The laws of `putField`: what is written reads back, and what stands outside is as it was.
+-- The laws of `putField`: what is written reads back, and what stands before it is as it was.
 -- Assumes nothing.
 use mathlib.Core.Path.{_≡_, refl, sym, ap, _∙_}
 use mathlib.Core.Bool.{Bool, cond, true, false}
@@ -53,10 +53,6 @@ pub put-within : (s : List ℕ) (i w v j : ℕ) → i ≤ j → j < i + w → pu
 unfolding putBit
 put-within s i w v j l h = rw (le-ltb j i l, lt-ltb j (i + w) h)
 
-pub put-after : (s : List ℕ) (i w v j : ℕ) → i + w ≤ j → putBit s i w v j ≡ bit s j
-unfolding putBit
-put-after s i w v j h = rw (le-ltb j i (omega arith), le-ltb j (i + w) h)
-
 cond-lt : (b c : Bool) (x y : ℕ) → x < 2 → y < 2 → cond b x (cond c y x) < 2
 cond-lt true c x y h l = h
 cond-lt false true x y h l = l
@@ -89,19 +85,6 @@ module _ (s : List ℕ) (i w v : ℕ) where
       field-number (putField s i w v) i w
       ∙ number-same (bit (putField s i w v)) (λ j. v / 2 ^ (i + w - 1 - j) % 2) i w (λ j l m. bit-put j (omega arith) ∙ put-within s i w v j l m)
       ∙ value v i w (i + w) refl
-
-  -- a field that lies before or behind what is written is as it was
-  kept : (j u : ℕ) → j + u ≤ 8 * length s → ((k : ℕ) → j ≤ k → k < j + u → putBit s i w v k ≡ bit s k) → field (putField s i w v) j u ≡ field s j u
-  kept j u h same =
-      field-number (putField s i w v) j u
-      ∙ number-same (bit (putField s i w v)) (bit s) j u (λ k l m. bit-put k (omega arith) ∙ same k l m)
-      ∙ sym (field-number s j u)
-
-  pub kept-before : (j u : ℕ) → j + u ≤ i → j + u ≤ 8 * length s → field (putField s i w v) j u ≡ field s j u
-  kept-before j u l h = kept j u h (λ k m n. put-before s i w v k (omega arith))
-
-  pub kept-after : (j u : ℕ) → i + w ≤ j → j + u ≤ 8 * length s → field (putField s i w v) j u ≡ field s j u
-  kept-after j u l h = kept j u h (λ k m n. put-after s i w v k (omega arith))
 
   pub byte-put : (k : ℕ) → getD (putField s i w v) k 0 < 256
   unfolding putField
