@@ -246,7 +246,7 @@ class Writing(Case):
 
     def test_too_wide(self):
         # Cut to 64 bits, the last two of these would be 5.
-        never = (-1, -(2**63), 2**64 - 1, 2**64, 2**64 + 5, 5 - 2**64)
+        never = (2**40, -1, -(2**63), 2**64 - 1, 2**64, 2**64 + 5, 5 - 2**64)
         for list, (method, widths, pack) in enumerate(KINDS):
             greatest = [2**width - 1 for width in widths]
             for i, width in enumerate(widths):
