@@ -29,13 +29,7 @@ def log(period, modules, states, standards, units):
     """States (module, code, time), standards (recipe, start, ms), units (module, recipe, time,
     actual, effective). Not finished: some are to be refused."""
     writer = Writer()
-    writer.header(period, modules, len(states), len(standards), len(units))
-    for record in states:
-        writer.state(*record)
-    for record in standards:
-        writer.standard(*record)
-    for record in units:
-        writer.unit(*record)
+    writer.records(period, modules, states, standards, units)
     return writer.written()
 
 

@@ -286,6 +286,15 @@ class Writing(Case):
         writer.state(0, 0, 0)
         self.assertEqual(len(writer.written()), tool_log.LONGEST_LOG)
 
+    def test_up_to_the_first_refused(self):
+        writer = Writer(10 + 6 + 9)
+        self.refused(18, 0, 0, writer.records, 10, 1, [(0, 0, 0), (0, 7, 1)], [(3, 0, 1)], [(0, 3, 0, 1, 1)])
+        # Three bytes are left behind two state records: no room for the standard.
+        self.assertEqual(len(writer.written()), 10 + 6 + 6)
+        writer = Writer()
+        self.refused(22, 1, 0, writer.records, 10, 1, [(0, 0, 0), (64, 7, 1)], [(3, 0, 1)], [])
+        self.assertEqual(len(writer.written()), 10 + 6)
+
     def test_no_int(self):
         class Index:
             def __index__(self):

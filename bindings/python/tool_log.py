@@ -237,9 +237,9 @@ def _int(name: str, value) -> int:
 class Writer:
     """A log written record by record: the header, then the states, standards and units that it counts, then finish().
 
-    Each method adds one record, or raises Refused and leaves the writer as it was: with 22 where a value does not fit its field, negative ones
-    included, and else with 18 where the record does not fit what is left of `size` bytes. What the values mean is tested by finish() alone. A value
-    that is no int is a TypeError.
+    Each of header, state, standard and unit adds one record, or raises Refused and leaves the writer as it was: with 22 where a value does not fit
+    its field, negative ones included, and else with 18 where the record does not fit what is left of `size` bytes. What the values mean is tested by
+    finish() alone. A value that is no int is a TypeError.
     """
 
     def __init__(self, size: int = LONGEST_LOG):
@@ -275,6 +275,14 @@ class Writer:
         """Units of the recipe that the module made, judged by the standard in force at this time, and how many of them are effective."""
         self._put(_put_unit, module=module, recipe=recipe, time=time, actual=actual, effective=effective)
 
+    def records(self, period: int, modules: int, states, standards, units) -> None:
+        """A header that counts these records, then each of them, up to the first that is refused. They are lists of what the methods above take:
+        states (module, code, time), standards (recipe, start, theoretical) and units (module, recipe, time, actual, effective)."""
+        self.header(period, modules, len(states), len(standards), len(units))
+        for add, records in (self.state, states), (self.standard, standards), (self.unit, units):
+            for record in records:
+                add(*record)
+
     def written(self) -> bytes:
         """The bytes so far, whether or not they are a log."""
         return self._buffer[: self._at]
@@ -288,17 +296,8 @@ class Writer:
 
 
 def write_log(period: int, modules: int, states, standards, units) -> bytes:
-    """A finished log of its records, or Refused. The records are tuples of what Writer's methods take, in the sequence that a log has:
-
-    states (module, code, time), standards (recipe, start, theoretical) and units (module, recipe, time, actual, effective).
-    """
+    """A finished log of its records, or Refused. The records are those that Writer.records takes."""
     states, standards, units = list(states), list(standards), list(units)
     writer = Writer(10 + 6 * len(states) + 9 * len(standards) + 11 * len(units))
-    writer.header(period, modules, len(states), len(standards), len(units))
-    for record in states:
-        writer.state(*record)
-    for record in standards:
-        writer.standard(*record)
-    for record in units:
-        writer.unit(*record)
+    writer.records(period, modules, states, standards, units)
     return writer.finish()
