@@ -14,7 +14,7 @@ use Rattle.records.specs.declared.Standard.{Standard}
 use Rattle.records.specs.Log.{upTo}
 use Rattle.rules.proofs.Booleans.{both-true, right-false}
 use Rattle.rules.proofs.FirstGround.{below-suc}
-use Rattle.rules.specs.Theoretical.{later, consider, inForce, Answers}
+use Rattle.rules.specs.Theoretical.{later, hasBegun, consider, inForce, Answers}
 
 -- ---- one more standard
 
@@ -23,16 +23,16 @@ unfolding inForce upTo
 force-more at n recipe time = foldl-append (consider recipe time) none (upTo at n) (at n ∷ [])
 
 -- a standard of another recipe, or one that starts after the time, does not count
-pub other-recipe : (recipe time : ℕ) (o : Option Standard) (s : Standard) → (s .recipe ≡ recipe → ⊥) → consider recipe time o s ≡ o
-other-recipe recipe time o s ne = rw (ne-eqb (s .recipe) recipe ne)
+pub other-recipe : (recipe time : ℕ) (s : Standard) → (s .recipe ≡ recipe → ⊥) → hasBegun recipe time s ≡ false
+other-recipe recipe time s ne = rw (ne-eqb (s .recipe) recipe ne)
 
-pub not-begun : (recipe time : ℕ) (o : Option Standard) (s : Standard) → time < s .start → consider recipe time o s ≡ o
-not-begun recipe time o s h = rw (right-false (eqb (s .recipe) recipe) (leb (s .start) time) (lt-leb (s .start) time h))
+pub not-begun : (recipe time : ℕ) (s : Standard) → time < s .start → hasBegun recipe time s ≡ false
+not-begun recipe time s h = right-false (eqb (s .recipe) recipe) (leb (s .start) time) (lt-leb (s .start) time h)
 
-pub counted : (recipe time : ℕ) (o : Option Standard) (s : Standard) → s .recipe ≡ recipe → s .start ≤ time → consider recipe time o s ≡ later o s
-counted recipe time o s e h = rw (both-true (eqb (s .recipe) recipe) (leb (s .start) time) (eq-eqb (s .recipe) recipe e) (le-leb (s .start) time h))
+pub begun : (recipe time : ℕ) (s : Standard) → s .recipe ≡ recipe → s .start ≤ time → hasBegun recipe time s ≡ true
+begun recipe time s e h = both-true (eqb (s .recipe) recipe) (leb (s .start) time) (eq-eqb (s .recipe) recipe e) (le-leb (s .start) time h)
 
--- ---- the lookup's answer is in force
+-- ---- what is in force, in document 01's words
 
 module _ (at : ℕ → Standard) (recipe time : ℕ) where
   -- standard n does not count: what was answered still stands
@@ -86,6 +86,6 @@ module _ (at : ℕ → Standard) (recipe time : ℕ) where
   in-force (suc n) = rw (force-more at n recipe time) (step (inForce (upTo at n) recipe time) (in-force n) (ℕ-discrete (at n .recipe) recipe) (decLt time (at n .start)))
     where
       step : (o : Option Standard) → Answers at n recipe time o → Dec (at n .recipe ≡ recipe) → Dec (time < at n .start) → Answers at (suc n) recipe time (consider recipe time o (at n))
-      step o a (no ne) d = rw (other-recipe recipe time o (at n) ne) (keeps n o a (λ e l. ne e))
-      step o a (yes e) (yes l) = rw (not-begun recipe time o (at n) l) (keeps n o a (λ e′ l′. omega arith))
-      step o a (yes e) (no l) = rw (counted recipe time o (at n) e (omega arith)) (takes n o a e (omega arith))
+      step o a (no ne) d = rw (other-recipe recipe time (at n) ne) (keeps n o a (λ e l. ne e))
+      step o a (yes e) (yes l) = rw (not-begun recipe time (at n) l) (keeps n o a (λ e′ l′. omega arith))
+      step o a (yes e) (no l) = rw (begun recipe time (at n) e (omega arith)) (takes n o a e (omega arith))

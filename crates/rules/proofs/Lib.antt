@@ -7,5 +7,6 @@ pub mod Sequence
 pub mod Keys
 pub mod Spared
 pub mod Risen
+pub mod LastInForce
 pub mod SameBytes
 pub mod Given

@@ -1,9 +1,9 @@
--- The standard in force, and the theoretical time of the units that a module made.
+-- The standard in force, what a walk from the end of the list answers, and the theoretical time of the units that a module made.
 -- Definitions only.
 use mathlib.Core.Path.{_≡_}
 use Prim.Native.Nat.{ℕ, _+_, _*_, _≤_, _<_}
 use mathlib.Core.List.{List, [], _∷_, foldl}
-use mathlib.Core.Bool.{_&&_, cond}
+use mathlib.Core.Bool.{Bool, _&&_, cond}
 use mathlib.Core.Option.{Option, none, some}
 use lib.Dec.{leb, eqb}
 use Rattle.records.specs.declared.Standard.{Standard}
@@ -14,9 +14,13 @@ abbrev pub later : Option Standard → Standard → Option Standard
 later none s = some s
 later (some b) s = cond (leb (s .start) (b .start)) (some b) (some s)
 
--- after one more standard: it counts where it is the recipe's and starts at or before the time
+-- a standard is the recipe's and starts at or before the time
+abbrev pub hasBegun : ℕ → ℕ → Standard → Bool
+hasBegun recipe time s = eqb (s .recipe) recipe && leb (s .start) time
+
+-- after one more standard: it counts where it has begun
 abbrev pub consider : ℕ → ℕ → Option Standard → Standard → Option Standard
-consider recipe time found s = cond (eqb (s .recipe) recipe && leb (s .start) time) (later found s) found
+consider recipe time found s = cond (hasBegun recipe time s) (later found s) found
 
 -- the standard in force: the recipe's with the latest start at or before the time
 unfoldable pub inForce : List Standard → ℕ → ℕ → Option Standard
@@ -36,6 +40,14 @@ pub record Force (at : ℕ → Standard) (n recipe time : ℕ) (s : Standard) : 
 abbrev pub Answers : (ℕ → Standard) → ℕ → ℕ → ℕ → Option Standard → Type 0
 Answers at n recipe time none = (i : ℕ) → i < n → at i .recipe ≡ recipe → at i .start ≤ time → ⊥
 Answers at n recipe time (some s) = Force at n recipe time s
+
+-- the last of a list that passes a test, or none
+unfoldable pub lastWhere : {A : Type 0} → (A → Bool) → List A → Option A
+lastWhere test xs = foldl (λ found x. cond (test x) (some x) found) none xs
+
+-- document 02's walk from the end: the last standard of the recipe with a start at or before the time, or none
+abbrev pub lastInForce : List Standard → ℕ → ℕ → Option Standard
+lastInForce ss recipe time = lastWhere (hasBegun recipe time) ss
 
 abbrev pub timeOf : Option Standard → ℕ
 timeOf none = 0

@@ -1,16 +1,17 @@
 -- Along a recipe's chain nothing of the recipe is passed over: what is asked of the first n standards is asked of those up to the last of the recipe.
 -- Assumes nothing.
 use mathlib.Core.Path.{_≡_, refl, sym, ap, _∙_}
-use mathlib.Core.Option.{Option, none, some}
+use mathlib.Core.Option.{some}
 use Prim.Native.Nat.{ℕ, zero, suc, pred, _≤_, _<_}
 use native.Mathlib.Decide.{ℕ-discrete}
 use native.Mathlib.Omega.{arith}
-use borrow.Author.Tests.{eq-eqb, ne-eqb, lt-leb}
+use borrow.Author.Tests.{eq-eqb, ne-eqb}
 use Rattle.records.specs.declared.Standard.{Standard}
 use Rattle.records.specs.Log.{upTo}
-use Rattle.rules.specs.Theoretical.{later, inForce, Answers}
-use Rattle.rules.proofs.InForce.{force-more, other-recipe, not-begun, counted, in-force}
-use Rattle.theoretical.specs.Chains.{lastOf, Proper}
+use Rattle.rules.specs.Theoretical.{hasBegun, lastInForce}
+use Rattle.rules.proofs.InForce.{other-recipe, not-begun, begun}
+use Rattle.rules.proofs.LastInForce.{last-where-more}
+use Rattle.theoretical.specs.Chains.{lastOf}
 
 module _ (at : ℕ → Standard) (recipe : ℕ) where
   -- ---- the last of the recipe
@@ -42,32 +43,24 @@ module _ (at : ℕ → Standard) (recipe : ℕ) where
         | no ne ↦ last-is n i (sym (last-other n ne) ∙ e)
       ]
 
-  -- ---- what is in force
+  -- ---- the last that has begun
 
-  pub force-skip : (time n : ℕ) → inForce (upTo at n) recipe time ≡ inForce (upTo at (lastOf at recipe n)) recipe time
+  pub begun-skip : (time n : ℕ) → lastInForce (upTo at n) recipe time ≡ lastInForce (upTo at (lastOf at recipe n)) recipe time
   unfolding lastOf
-  force-skip time zero = refl
-  force-skip time (suc n) =
+  begun-skip time zero = refl
+  begun-skip time (suc n) =
       elim (ℕ-discrete (at n .recipe) recipe) [
         | yes e ↦ rw (last-own n e)
-        | no ne ↦ rw (last-other n ne) (force-more at n recipe time ∙ other-recipe recipe time _ (at n) ne ∙ force-skip time n)
+        | no ne ↦ rw (last-other n ne) (last-where-more (hasBegun recipe time) at n ∙ rw (other-recipe recipe time (at n) ne) (begun-skip time n))
       ]
 
   -- one that has not begun is passed over
-  pub force-passed : (time i : ℕ) → at i .recipe ≡ recipe → time < at i .start → inForce (upTo at (suc i)) recipe time ≡ inForce (upTo at (lastOf at recipe i)) recipe time
-  force-passed time i o h = force-more at i recipe time ∙ not-begun recipe time _ (at i) h ∙ force-skip time i
+  pub begun-passed : (time i : ℕ) → time < at i .start → lastInForce (upTo at (suc i)) recipe time ≡ lastInForce (upTo at (lastOf at recipe i)) recipe time
+  begun-passed time i h = last-where-more (hasBegun recipe time) at i ∙ rw (not-begun recipe time (at i) h) (begun-skip time i)
 
-  -- where the starts rise, it is in force
-  pub force-newest : (time n i : ℕ) → Proper at n → i < n → at i .recipe ≡ recipe → at i .start ≤ time → inForce (upTo at (suc i)) recipe time ≡ some (at i)
-  force-newest time n i up l o h =
-      force-more at i recipe time ∙ counted recipe time (inForce (upTo at i) recipe time) (at i) o h ∙ beats (inForce (upTo at i) recipe time) (in-force at recipe time i)
-    where
-      beats : (x : Option Standard) → Answers at i recipe time x → later x (at i) ≡ some (at i)
-      beats none a = refl
-      beats (some b) f =
-          let e : at (f .index) .recipe ≡ at i .recipe = ap (λ (s : Standard). s .recipe) (sym (f .same)) ∙ f .own ∙ sym o in
-          let g : b .start < at i .start = rw (f .same) (up .rises (f .index) i (f .listed) l e) in
-          rw (lt-leb (at i .start) (b .start) g)
+  -- one that has is the last
+  pub begun-found : (time i : ℕ) → at i .recipe ≡ recipe → at i .start ≤ time → lastInForce (upTo at (suc i)) recipe time ≡ some (at i)
+  begun-found time i o h = last-where-more (hasBegun recipe time) at i ∙ rw (begun recipe time (at i) o h)
 
 -- ---- a walk along a chain
 

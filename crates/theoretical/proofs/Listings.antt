@@ -1,17 +1,16 @@
 -- The standards tested and listed, one by one.
 -- Assumes nothing.
-use mathlib.Core.Path.{_≡_, refl, sym, ap, _∙_}
+use mathlib.Core.Path.{_≡_, refl, sym, _∙_}
 use mathlib.Core.Bool.{Bool, true, false, _&&_, _||_}
-use mathlib.Core.Option.{Option, none, some}
 use mathlib.Core.List.{List, [], _∷_, _++_}
-use Prim.Native.Nat.{ℕ, zero, suc, _+_, _*_, _/_, _%_, _^_, _≤_, _<_}
+use Prim.Native.Nat.{ℕ, zero, suc, _+_, _*_, _^_, _≤_, _<_}
 use native.Mathlib.Numerals.{add-one}
 use native.Mathlib.Decide.{ℕ-discrete}
 use native.Mathlib.Omega.{arith}
 use lib.ListN.{length, getD, set, replicate, length-set, length-replicate, getD-replicate}
 use lib.Seq.{getD-set-same, getD-set-other}
-use lib.Dec.{leb, eqb}
-use borrow.Author.Tests.{le-leb, lt-leb, le-ltb, lt-ltb, eq-eqb, ne-eqb, eqb-false}
+use lib.Dec.{eqb}
+use borrow.Author.Tests.{le-leb, lt-leb, le-ltb, lt-ltb, eq-eqb, ne-eqb}
 use Rattle.records.specs.declared.Standard.{Standard}
 use Rattle.records.specs.declared.Header.{Header}
 use Rattle.records.specs.Log.{upTo, standardAt}
@@ -19,71 +18,27 @@ use Rattle.records.proofs.Widths.{standard-fits}
 use Rattle.rules.specs.declared.Refusal.{Refusal}
 use Rattle.rules.specs.declared.Verdict.{Verdict}
 use Rattle.rules.specs.declared.Verdict.the-variants.{Accepted, Refused}
-use Rattle.rules.specs.Grounds.{ground, firstOf}
-use Rattle.rules.specs.Theoretical.{inForce, Answers}
+use Rattle.rules.specs.Grounds.{firstOf}
 use Rattle.rules.specs.RecordGrounds.{isAmong, standardGround, standardGrounds}
-use Rattle.rules.proofs.FirstGround.{refused-not, then-left, then-right, not-met, first-none, first-more, first-stop, first-all, turn-range}
-use Rattle.rules.proofs.InForce.{in-force}
+use Rattle.rules.proofs.FirstGround.{refused-not, first-none, first-more, first-stop, turn-range}
 use Rattle.rules.proofs.Booleans.{or-true}
-use Rattle.rules.proofs.Sequence.{start-above, rising-pair}
 use Rattle.rules.proofs.Spared.{not-among}
-use Rattle.rules.proofs.Risen.{standards-rise}
 use Rattle.rules.proofs.Keys.{sequenced-none}
 use Rattle.rules.specs.Sequence.{standardKey}
 use Rattle.rules.specs.Keys.{standardNumber, StandardFits, StandardsSequenced}
-use Rattle.theoretical.specs.declared.Lookup.the-variants.{Found, Nothing}
-use Rattle.theoretical.specs.Chains.{lastOf, Proper, entryOf, entryIn, lookupOf}
+use Rattle.theoretical.specs.Chains.{lastOf, entryOf}
 use Rattle.theoretical.specs.Listing.{Listing, Added, AllListed}
 use Rattle.theoretical.proofs.ChainLaws.{last-own, last-other}
 
--- ---- what is looked up
+-- ---- the widths of a standard's fields
 
--- a time of a log's standard by its width
+-- its theoretical time
 pub time-low : (s : List ℕ) (h : Header) (i : ℕ) → standardAt s h i .theoretical < 2 ^ 27
 time-low s h i = standard-fits s (80 + 48 * h .states + 72 * i) .1 .1 .0
 
--- its recipe and start by theirs
+-- its recipe and start
 pub fits-fields : (s : List ℕ) (h : Header) (i : ℕ) → StandardFits (standardAt s h i)
 fits-fields s h i = let f = standard-fits s (80 + 48 * h .states + 72 * i) in (f .0, f .1 .0)
-
--- the standard in force, by its entry, and none where that is 0
-module _ (at : ℕ → Standard) (n recipe time : ℕ) (fine : Proper at n) where
-  pub looked-up : (entry : ℕ) → entry ≡ entryIn (inForce (upTo at n) recipe time) → (entry ≡ 0 → ⊥)
-      → Found (record { recipe = recipe; start = entry / 2 ^ 27; theoretical = entry % 2 ^ 27 }) ≡ lookupOf (inForce (upTo at n) recipe time)
-  looked-up entry e some-there = go (inForce (upTo at n) recipe time) (in-force at recipe time n) e
-    where
-      go : (o : Option Standard) → Answers at n recipe time o → entry ≡ entryIn o → Found (record { recipe = recipe; start = entry / 2 ^ 27; theoretical = entry % 2 ^ 27 }) ≡ lookupOf o
-      go none a q = absurd (some-there q)
-      go (some s) f q =
-          let short : s .theoretical < 2 ^ 27 = rw (f .same) (fine .timed (f .index) (f .listed) .1) in
-          let start : entry / 2 ^ 27 ≡ s .start = omega arith in
-          let theoretical : entry % 2 ^ 27 ≡ s .theoretical = omega arith in
-          rw (start, theoretical) (ap Found (λ j. record { recipe = sym (f .own) j; start = s .start; theoretical = s .theoretical }))
-
-  pub looked-none : (entry : ℕ) → entry ≡ entryIn (inForce (upTo at n) recipe time) → entry ≡ 0 → Nothing ≡ lookupOf (inForce (upTo at n) recipe time)
-  looked-none entry e zero-there = go (inForce (upTo at n) recipe time) (in-force at recipe time n) e
-    where
-      go : (o : Option Standard) → Answers at n recipe time o → entry ≡ entryIn o → Nothing ≡ lookupOf o
-      go none a q = refl
-      go (some s) f q =
-          let pos : 0 < s .theoretical = rw (f .same) (fine .timed (f .index) (f .listed) .0) in
-          absurd (omega arith)
-
--- standards that pass their tests
-passed-time : (period : ℕ) (es : List Standard) (i : ℕ) (s : Standard) → standardGround period es i s ≡ Accepted → s .theoretical ≡ 0 → ⊥
-unfolding standardGround
-passed-time period es i s a =
-    eqb-false (s .theoretical) 0 (not-met 12 2 i (eqb (s .theoretical) 0) (then-left (ground 12 2 i (eqb (s .theoretical) 0)) _ (then-right (ground 9 2 i (leb period (s .start))) _ a)))
-
-pub proper : (period : ℕ) (at : ℕ → Standard) (n : ℕ) → ((i : ℕ) → at i .theoretical < 2 ^ 27) → standardGrounds period (upTo at n) ≡ Accepted → Proper at n
-unfolding standardGrounds
-proper period at n short a =
-    let each : (i : ℕ) → i < n → standardGround period (upTo at i) i (at i) ≡ Accepted
-    = first-all (λ i. standardGround period (upTo at i) i (at i)) n (sym (turn-range (standardGround period) at n) ∙ a) in
-    record {
-      timed = λ i h. (omega (arith, passed-time period (upTo at i) i (at i) (each i h)), short i);
-      rises = λ i j l h e. start-above (at i) (at j) e (rising-pair standardKey at n (standards-rise period (upTo at n) a) i j l h);
-    }
 
 -- ---- one standard tested
 

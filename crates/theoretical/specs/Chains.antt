@@ -1,7 +1,6 @@
 -- The standards of one recipe as a chain from the last of them to the first, what each is held as, and what is answered of it.
 -- Definitions only.
-use Prim.Native.Nat.{ℕ, zero, suc, _+_, _*_, _^_, _<_}
-use mathlib.Core.Path.{_≡_}
+use Prim.Native.Nat.{ℕ, zero, suc, _+_, _*_, _^_}
 use mathlib.Core.Bool.{cond}
 use mathlib.Core.Option.{Option, none, some}
 use lib.Dec.{eqb}
@@ -14,20 +13,11 @@ unfoldable pub lastOf : (ℕ → Standard) → ℕ → ℕ → ℕ
 lastOf at recipe zero = 0
 lastOf at recipe (suc n) = cond (eqb (at n .recipe) recipe) (suc n) (lastOf at recipe n)
 
--- each standard has a time, which fits its field, and the starts of each recipe rise
-pub record Proper (at : ℕ → Standard) (n : ℕ) : Type 0 where
-  pub timed : (i : ℕ) → i < n → (0 < at i .theoretical) × (at i .theoretical < 2 ^ 27)
-  pub rises : (i j : ℕ) → i < j → j < n → at i .recipe ≡ at j .recipe → at i .start < at j .start
-
--- a standard's start and theoretical time in one number, and 0 for none
+-- a standard's start and theoretical time in one number
 abbrev pub entryOf : Standard → ℕ
 entryOf s = s .start * 2 ^ 27 + s .theoretical
 
-abbrev pub entryIn : Option Standard → ℕ
-entryIn none = 0
-entryIn (some s) = entryOf s
-
--- the standard in force, or none, as the lookup answers it
+-- a standard, or none, as the lookup answers it
 abbrev pub lookupOf : Option Standard → Lookup
 lookupOf none = Nothing
 lookupOf (some s) = Found s

@@ -4,10 +4,12 @@ ghost use Prim.Native.Nat.{pred, _+_, _*_, _^_, _<_, _≤_};
 ghost use lib.ListN.{getD, set, replicate};
 ghost use Rattle.records.specs.Log.{upTo, standardAt, unitAt};
 ghost use Rattle.records.specs.Covers.{Covers};
-ghost use Rattle.rules.specs.Theoretical.{inForce};
+ghost use mathlib.Core.Bool.{true};
+ghost use Rattle.rules.specs.Theoretical.{lastInForce};
+ghost use Rattle.rules.specs.Sequence.{isRising, standardKey};
 ghost use Rattle.rules.specs.Keys.{standardNumber, StandardFits, StandardsSequenced, unitNumber, UnitFits, UnitsSequenced};
 ghost use Rattle.rules.specs.RecordGrounds.{isAmong, standardGround};
-ghost use Rattle.theoretical.specs.Chains.{lastOf, Proper, entryOf, entryIn, lookupOf};
+ghost use Rattle.theoretical.specs.Chains.{lastOf, entryOf, lookupOf};
 ghost use Rattle.theoretical.specs.Listing.{Chained, Listing, Added, AllListed};
 ghost use Rattle.theoretical.specs.Credits.{ownGrounds, SumsSoFar, OneUnit, AllUnits, Units};
 use records::Header;
@@ -16,7 +18,7 @@ use records::UnitRecord;
 use rules::Refusal;
 use rules::Verdict;
 
-// What looking up a standard answers: the standard in force, or none.
+// What looking up a standard answers: a standard, or none.
 enum Lookup {
     Found(Standard),
     Nothing,
@@ -73,8 +75,8 @@ fn limit_of(time: u64) -> u64
     (time + 1) * 0x800_0000
 }
 
-// The entry of the standard in force, and 0 where none is: the first on the chain that has begun, since the starts rise.
-fn newest(
+// From the recipe's last standard towards the front of the list: the first on the way that has begun, or none.
+fn walk_back(
     log: &[u8],
     h: Header,
     n: usize,
@@ -83,25 +85,28 @@ fn newest(
     from: usize,
     recipe: usize,
     time: u64,
-) -> u64
+) -> Lookup
     requires { ⌜ Chained (standardAt (now log) h) n (now entries) (now links) ⌝ }
     requires { ⌜ (from ≡ lastOf (standardAt (now log) h) recipe n) × (time < 2 ^ 35) ⌝ }
-    requires { ⌜ Proper (standardAt (now log) h) n ⌝ }
-    ensures { λ r. ⌜ r ≡ entryIn (inForce (upTo (standardAt (now (log .entry)) h) n) recipe time) ⌝ }
+    ensures { λ r. ⌜ r ≡ lookupOf (lastInForce (upTo (standardAt (now (log .entry)) h) n) recipe time) ⌝ }
 {
     let limit = limit_of(time);
     let mut link = from;
     while link != 0 {
         let entry = entry_at(log, h, n, entries, links, link);
         if entry < limit {
-            return entry;
+            return Lookup::Found(Standard {
+                recipe,
+                start: entry / 0x800_0000,
+                theoretical: entry % 0x800_0000,
+            });
         }
         link = link_before(log, h, n, entries, links, link);
     }
-    0
+    Lookup::Nothing
 }
 
-// The standard in force for a recipe at a time, or none.
+// The last standard of the list, rising or not, that is the recipe's and starts at or before the time, or none.
 fn look_up(
     log: &[u8],
     h: Header,
@@ -113,20 +118,11 @@ fn look_up(
     time: u64,
 ) -> Lookup
     requires { ⌜ Listing (standardAt (now log) h) n (now entries) (now links) (now last) ⌝ }
-    requires { ⌜ Proper (standardAt (now log) h) n ⌝ }
     requires { ⌜ (recipe < 1024) × (time < 2 ^ 35) ⌝ }
-    ensures { λ r. ⌜ r ≡ lookupOf (inForce (upTo (standardAt (now (log .entry)) h) n) recipe time) ⌝ }
+    ensures { λ r. ⌜ r ≡ lookupOf (lastInForce (upTo (standardAt (now (log .entry)) h) n) recipe time) ⌝ }
 {
     let from = last[recipe];
-    let entry = newest(log, h, n, entries, links, from, recipe, time);
-    if entry == 0 {
-        return Lookup::Nothing;
-    }
-    Lookup::Found(Standard {
-        recipe,
-        start: entry / 0x800_0000,
-        theoretical: entry % 0x800_0000,
-    })
+    walk_back(log, h, n, entries, links, from, recipe, time)
 }
 
 // A standard's recipe and start in one number above 0, by which standards ascend.
@@ -293,7 +289,7 @@ fn credit_unit(
     effective: &mut [u64; 64],
 ) -> Verdict
     requires { ⌜ Listing (standardAt (now log) h) (h .standards) (now entries) (now links) (now last) ⌝ }
-    requires { ⌜ Proper (standardAt (now log) h) (h .standards) ⌝ }
+    requires { ⌜ isRising standardKey (upTo (standardAt (now log) h) (h .standards)) ≡ true ⌝ }
     requires { ⌜ UnitsSequenced (upTo (unitAt (now log) h) i) (now before) ⌝ }
     requires { ⌜ SumsSoFar (upTo (standardAt (now log) h) (h .standards)) (upTo (unitAt (now log) h) i) i (now actual) (now effective) ⌝ }
     requires { ⌜ (i < 2000) × (byte ≡ 10 + 6 * h .states + 9 * h .standards + 11 * i) × Covers (now log) (byte + 11) ⌝ }
@@ -330,7 +326,7 @@ fn credit_listed(
     effective: &mut [u64; 64],
 ) -> Verdict
     requires { ⌜ Listing (standardAt (now log) h) (h .standards) (now entries) (now links) (now last) ⌝ }
-    requires { ⌜ Proper (standardAt (now log) h) (h .standards) ⌝ }
+    requires { ⌜ isRising standardKey (upTo (standardAt (now log) h) (h .standards)) ≡ true ⌝ }
     requires { ⌜ SumsSoFar (upTo (standardAt (now log) h) (h .standards)) (upTo (unitAt (now log) h) 0) 0 (now actual) (now effective) ⌝ }
     requires { ⌜ (h .units ≤ 2000) × Covers (now log) (10 + 6 * h .states + 9 * h .standards + 11 * h .units) ⌝ }
     ensures { λ r. ⌜ AllUnits (h .period) (h .modules) (upTo (standardAt (now (log .entry)) h) (h .standards)) (upTo (unitAt (now (log .entry)) h) (h .units)) r (now (actual .exit)) (now (effective .exit)) ⌝ }

@@ -15,6 +15,7 @@ use Rattle.records.proofs.Widths.{standard-fits, unit-fits}
 use Rattle.rules.specs.Keys.{UnitFits}
 use Rattle.rules.specs.Theoretical.{inForce, Answers}
 use Rattle.rules.proofs.InForce.{in-force}
+use Rattle.rules.proofs.LastInForce.{last-in-force}
 use Rattle.theoretical.specs.declared.Lookup.the-variants.{Found, Nothing}
 use Rattle.theoretical.specs.Chains.{lookupOf}
 use Rattle.theoretical.proofs.Crediting.{unit-own, unit-none, unit-unsorted, unit-credited}
@@ -65,7 +66,15 @@ look-up-requires c κs =
     let a = s .args in
     let u = c .before .before .before in
     let w = widths (a .log .now) (a .h) (a .i) (u .unit-from .result) (reads u) in
-    (s .pre .0, (s .pre .1 .0, (w .1, w .2)))
+    (s .pre .0, (w .1, w .2))
+
+-- the standards rise, so what was looked up is what is in force
+looked-up : (c : tie.After-look-up)
+    → let a = c .before .before .before .before .before .before .args in let u = c .before .before .before .before .unit-from .result in c .look-up .result ≡ lookupOf (inForce (upTo (standardAt (a .log .now) (a .h)) (a .h .standards)) (u .recipe) (u .time))
+looked-up c =
+    let s = c .before .before .before .before .before .before in
+    let u = c .before .before .before .before .unit-from .result in
+    c .look-up .ensures ∙ ap lookupOf (last-in-force (upTo (standardAt (s .args .log .now) (s .args .h)) (s .args .h .standards)) (u .recipe) (u .time) (s .pre .1 .0))
 
 returns-2 : tie.Need-returns-2
 returns-2 c =
@@ -73,12 +82,12 @@ returns-2 c =
     let r = c .before .before .before .before .before .before in
     let u = r .before in
     unit-none (a .h .period) (a .h .modules) (upTo (standardAt (a .log .now) (a .h)) (a .h .standards)) (unitAt (a .log .now) (a .h)) (a .i) (u .unit-from .result) (reads u) (r .test-unit .result) (r .test-unit .ensures)
-    (c .before .before .before .before .enum-told2 .given .1) (none-is _ (sym (c .before .enum-told3 .given .1) ∙ c .before .before .before .look-up .ensures)) (c .refused .result) (c .refused .ensures) (a .before .now) (a .actual .now) (a .effective .now)
+    (c .before .before .before .before .enum-told2 .given .1) (none-is _ (sym (c .before .enum-told3 .given .1) ∙ looked-up (c .before .before .before))) (c .refused .result) (c .refused .ensures) (a .before .now) (a .actual .now) (a .effective .now)
 
 -- where the lookup found a standard
 in-force-there : (c : tie.After-s)
     → let a = c .before .before .before .before .before .before .before .before .args in let u = c .before .before .before .before .before .before .unit-from .result in inForce (upTo (standardAt (a .log .now) (a .h)) (a .h .standards)) (u .recipe) (u .time) ≡ some (c .s .given .0 .0)
-in-force-there c = found-is _ _ (sym (c .s .given .1) ∙ c .before .before .look-up .ensures)
+in-force-there c = found-is _ _ (sym (c .s .given .1) ∙ looked-up (c .before .before))
 
 short-there : (c : tie.After-s) → c .s .given .0 .0 .theoretical < 134217728
 short-there c =

@@ -8,7 +8,8 @@ use Rattle.rules.specs.declared.Verdict.{Verdict}
 use Rattle.rules.specs.Grounds.{_then_}
 use Rattle.rules.specs.RecordGrounds.{unitGrounds}
 use Rattle.rules.proofs.FirstGround.{refused-not}
-use Rattle.theoretical.proofs.Listings.{time-low, proper, listing-none}
+use Rattle.rules.proofs.Risen.{standards-rise}
+use Rattle.theoretical.proofs.Listings.{listing-none}
 use Rattle.theoretical.proofs.Crediting.{summed-none}
 use Rattle.theoretical.proofs.credit_units.Statement.{statement}
 use Rattle.theoretical.proofs.credit_units.Tie as tie
@@ -34,8 +35,8 @@ credit-listed-requires c κs =
     let a = s .args in
     let l = c .before .before .before .before .before .before .before .list-standards .ensures in
     let fine = c .before .before .before .before .before .enum-told2 .given .1 in
-    let standards = proper (a .h .period) (standardAt (a .log .now) (a .h)) (a .h .standards) (time-low (a .log .now) (a .h)) (sym (l .answer) ∙ fine) in
-    (l .listing fine, (standards, (summed-none _ _ _ _ (s .pre .1 .0) (s .pre .1 .1), (s .pre .0 .1, s .pre .0 .2))))
+    let rising = standards-rise (a .h .period) (upTo (standardAt (a .log .now) (a .h)) (a .h .standards)) (sym (l .answer) ∙ fine) in
+    (l .listing fine, (rising, (summed-none _ _ _ _ (s .pre .1 .0) (s .pre .1 .1), (s .pre .0 .1, s .pre .0 .2))))
 
 returns-2 : tie.Need-returns-2
 returns-2 c =

@@ -1,0 +1,87 @@
+-- The walk from the end of the standards: in their rising sequence the last of the recipe that has begun is the one in force, since each later one of the recipe
+-- starts later.
+-- Assumes nothing.
+use mathlib.Core.Path.{_≡_, refl, sym, _∙_}
+use mathlib.Core.Bool.{Bool, true, false, cond}
+use mathlib.Core.Option.{Option, none, some}
+use mathlib.Core.List.{List, [], _∷_, foldl, foldl-append}
+use Prim.Native.Nat.{ℕ, suc}
+use lib.Dec.{leb, eqb}
+use borrow.Author.Tests.{eqb-true, lt-leb}
+use Rattle.records.specs.declared.Standard.{Standard}
+use Rattle.records.specs.Log.{upTo, headerOf, standardAt, decode}
+use Rattle.rules.specs.declared.Verdict.the-variants.{Accepted}
+use Rattle.rules.specs.Sequence.{isRisingAfter, isRising, standardKey}
+use Rattle.rules.specs.Theoretical.{later, hasBegun, consider, inForce, Answers, lastWhere, lastInForce}
+use Rattle.rules.specs.Verdict.{verdict}
+use Rattle.rules.proofs.Booleans.{both}
+use Rattle.rules.proofs.InForce.{in-force}
+use Rattle.rules.proofs.Risen.{risen}
+use Rattle.rules.proofs.Sequence.{AllAbove, rising-above, rising-tail, start-above}
+
+-- ---- on every list
+
+-- one more element: it is the last that passes, or the last is where it was
+pub last-where-more : {A : Type 0} (test : A → Bool) (at : ℕ → A) (n : ℕ) → lastWhere test (upTo at (suc n)) ≡ cond (test (at n)) (some (at n)) (lastWhere test (upTo at n))
+unfolding lastWhere upTo
+last-where-more test at n = foldl-append (λ found x. cond (test x) (some x) found) none (upTo at n) (at n ∷ [])
+
+-- ---- on a list that rises
+
+module _ (recipe time : ℕ) where
+  -- the standard found so far is the recipe's, and those that follow are above it
+  abbrev Ahead : Option Standard → List Standard → Type 0
+  Ahead none ss = Unit {0}
+  Ahead (some b) ss = (b .recipe ≡ recipe) × AllAbove standardKey (standardKey b) ss
+
+  ahead-tail : (found : Option Standard) (s : Standard) (ss : List Standard) → Ahead found (s ∷ ss) → Ahead found ss
+  ahead-tail none s ss a = tt
+  ahead-tail (some b) s ss a = (a .0, a .1 .1)
+
+  -- so the next one of the recipe starts later
+  starts-later : (found : Option Standard) (s : Standard) (ss : List Standard) → Ahead found (s ∷ ss) → s .recipe ≡ recipe → some s ≡ later found s
+  starts-later none s ss a e = refl
+  starts-later (some b) s ss a e = rw (lt-leb (s .start) (b .start) (start-above b s (a .0 ∙ sym e) (a .1 .0)))
+
+  same : (found before : Option Standard) (ss : List Standard) → Ahead found ss → isRisingAfter standardKey before ss ≡ true
+      → foldl (λ found s. cond (hasBegun recipe time s) (some s) found) found ss ≡ foldl (consider recipe time) found ss
+  same found before [] a r = refl
+  same found before (s ∷ ss) a r = step (hasBegun recipe time s) refl (λ next h. same next (some s) ss h (rising-tail standardKey before s ss r))
+    where
+      Same : Option Standard → Option Standard → Type 0
+      Same x y = foldl (λ found s. cond (hasBegun recipe time s) (some s) found) x ss ≡ foldl (consider recipe time) y ss
+
+      step : (b : Bool) → hasBegun recipe time s ≡ b → ((next : Option Standard) → Ahead next ss → Same next next) → Same (cond b (some s) found) (cond b (later found s) found)
+      step true e rest =
+          let own : s .recipe ≡ recipe = eqb-true (s .recipe) recipe (both (eqb (s .recipe) recipe) (leb (s .start) time) e .0) in
+          rw (← starts-later found s ss a own) (rest (some s) (own, rising-above standardKey s ss (rising-tail standardKey before s ss r)))
+      step false e rest = rest found (ahead-tail found s ss a)
+
+pub last-in-force : (ss : List Standard) (recipe time : ℕ) → isRising standardKey ss ≡ true → lastInForce ss recipe time ≡ inForce ss recipe time
+unfolding lastWhere inForce
+last-in-force ss recipe time r = same recipe time none none ss tt r
+
+-- ---- on an accepted log
+
+-- in every accepted log what the walk answers is in force, in document 01's own words
+pub accepted-in-force : (s : List ℕ) → verdict s ≡ Accepted → (recipe time : ℕ)
+    → Answers (standardAt s (headerOf s)) (headerOf s .standards) recipe time (lastInForce (decode s .standards) recipe time)
+unfolding decode
+accepted-in-force s a recipe time =
+    rw (last-in-force (decode s .standards) recipe time (risen s a .standards)) (in-force (standardAt s (headerOf s)) recipe time (headerOf s .standards))
+
+-- ---- on a list that does not rise
+
+-- three standards of recipe 5, the last two with one start
+abbrev unsorted : List Standard
+unsorted = record { recipe = 5; start = 100; theoretical = 7 } ∷ record { recipe = 5; start = 0; theoretical = 8 } ∷ record { recipe = 5; start = 0; theoretical = 9 } ∷ []
+
+-- at 200 the one with the latest start is the first, and the last is another
+pub unsorted-differs : (inForce unsorted 5 200 ≡ some (record { recipe = 5; start = 100; theoretical = 7 })) × (lastInForce unsorted 5 200 ≡ some (record { recipe = 5; start = 0; theoretical = 9 }))
+unfolding inForce lastWhere
+unsorted-differs = (refl, refl)
+
+-- at 50 two have the latest start: the first of them is in force, and the walk answers the last
+pub equal-starts-differ : (inForce unsorted 5 50 ≡ some (record { recipe = 5; start = 0; theoretical = 8 })) × (lastInForce unsorted 5 50 ≡ some (record { recipe = 5; start = 0; theoretical = 9 }))
+unfolding inForce lastWhere
+equal-starts-differ = (refl, refl)
