@@ -244,6 +244,24 @@ pub fn in_force(standards: &[Standard], recipe: u64, time: u64) -> Option<Standa
     found
 }
 
+/// R-3's walk from the end of the list towards its front: the last standard of the recipe with a start at or
+/// before the time.
+pub fn last_in_force(standards: &[Standard], recipe: u64, time: u64) -> Option<Standard> {
+    let begun = |standard: &&Standard| standard.recipe == recipe && standard.start <= time;
+    standards.iter().rev().find(begun).copied()
+}
+
+/// The standard of a tested unit. In the rising sequence the walk answers the one in force.
+fn standard_of(log: &Log, unit: &UnitRecord) -> Standard {
+    let standard = in_force(&log.standards, unit.recipe, unit.time);
+    assert_eq!(
+        last_in_force(&log.standards, unit.recipe, unit.time),
+        standard,
+        "the walk answers another standard than the one in force"
+    );
+    standard.expect("a tested unit")
+}
+
 fn module_sums(log: &Log, module: u64) -> Sums {
     let state_times = state_times(log, module);
     let time_in = |state: State| state_times[state as usize];
@@ -255,7 +273,7 @@ fn module_sums(log: &Log, module: u64) -> Sums {
         effective: 0,
     };
     for unit in log.units.iter().filter(|unit| unit.module == module) {
-        let standard = in_force(&log.standards, unit.recipe, unit.time).expect("a tested unit");
+        let standard = standard_of(log, unit);
         quantities.actual += unit.actual * standard.theoretical;
         quantities.effective += unit.effective * standard.theoretical;
     }

@@ -1,7 +1,9 @@
 //! Document 01's case W and its edge cases, on the oracle.
 
 use difftest::draft::Draft;
-use difftest::oracle::{account, figures, ten_thousandths, Account, Quantities};
+use difftest::oracle::{
+    account, figures, in_force, last_in_force, ten_thousandths, Account, Quantities,
+};
 use difftest::records::*;
 
 const WEEK: u64 = 604_800_000;
@@ -453,4 +455,20 @@ fn sums_past_32_and_53_bits() {
     draft.standards[0].theoretical = 134_217_727;
     (0..2_000).for_each(|time| draft.unit(0, 0, time, 65_535, 0));
     refused(&draft, 16, NO_LIST, 0);
+}
+
+/// In a list that does not rise, which a log is refused for, R-3's walk may answer another standard than the one in force.
+#[test]
+fn the_walk_on_a_list_that_does_not_rise() {
+    let standard = |start, theoretical| Standard {
+        recipe: 5,
+        start,
+        theoretical,
+    };
+    let unsorted = [standard(100, 7), standard(0, 8), standard(0, 9)];
+    assert_eq!(in_force(&unsorted, 5, 200), Some(standard(100, 7)));
+    assert_eq!(last_in_force(&unsorted, 5, 200), Some(standard(0, 9)));
+    assert_eq!(in_force(&unsorted, 5, 50), Some(standard(0, 8)));
+    assert_eq!(last_in_force(&unsorted, 5, 50), Some(standard(0, 9)));
+    assert_eq!(last_in_force(&unsorted, 4, 200), None);
 }

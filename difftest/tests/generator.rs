@@ -252,6 +252,31 @@ fn shapes(log: &Log, account: &Account) -> Vec<String> {
                 != in_force(&log.standards, unit.recipe, unit.time)
         })
     });
+    // How far from the end of its recipe's standards a unit's own is.
+    let walked = |far: &dyn Fn(&[Standard], &[Standard]) -> bool| {
+        log.units.iter().any(|unit| {
+            let own = |standard: &&Standard| standard.recipe == unit.recipe;
+            let of_recipe: Vec<Standard> = log.standards.iter().filter(own).copied().collect();
+            let begun = of_recipe.partition_point(|standard| standard.start <= unit.time);
+            far(&of_recipe[..begun], &of_recipe[begun..])
+        })
+    };
+    note(
+        "unit on the last of fifty revisions",
+        walked(&|begun, to_come| begun.len() >= 50 && to_come.is_empty()),
+    );
+    note(
+        "unit on the first of fifty revisions",
+        walked(&|begun, to_come| begun.len() == 1 && to_come.len() >= 49),
+    );
+    note(
+        "unit amid revisions",
+        walked(&|begun, to_come| begun.len() >= 10 && to_come.len() >= 10),
+    );
+    note(
+        "unit on the first standard of the list, others behind it",
+        walked(&|begun, to_come| begun == &log.standards[..1] && !to_come.is_empty()),
+    );
     note(
         "record of the greatest unit count",
         log.units.iter().any(|unit| unit.actual == 65_535),
@@ -303,6 +328,10 @@ fn every_shape_is_met() {
             "unit at a start",
             "unit 1 ms before a start",
             "later standard in force than the first that covers",
+            "unit on the last of fifty revisions",
+            "unit on the first of fifty revisions",
+            "unit amid revisions",
+            "unit on the first standard of the list, others behind it",
             "record of the greatest unit count",
         ]
         .map(String::from),

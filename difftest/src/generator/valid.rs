@@ -16,9 +16,14 @@ const WEEK: u64 = 604_800_000;
 /// Once in so many logs a list is as long as it may be.
 const LARGE_ONCE_IN: u64 = 300;
 
+/// Once in so many others the recipes have years of revisions.
+const REVISED_ONCE_IN: u64 = 10;
+
 pub fn draft(rng: &mut Prng) -> Draft {
     let sizes = if rng.once_in(LARGE_ONCE_IN) {
         Sizes::large(rng)
+    } else if rng.once_in(REVISED_ONCE_IN) {
+        Sizes::revised(rng)
     } else {
         Sizes::small(rng)
     };
@@ -73,6 +78,17 @@ impl Sizes {
             } else {
                 rng.between(1, 10)
             },
+        }
+    }
+
+    /// A few recipes of many revisions each.
+    fn revised(rng: &mut Prng) -> Sizes {
+        Sizes {
+            period: rng.pick(&[1_000, DAY, LONGEST_PERIOD]),
+            standards: rng.between(9, 150),
+            recipes: rng.between(1, 3),
+            units: rng.between(1, 60),
+            ..Sizes::small(rng)
         }
     }
 
@@ -272,6 +288,15 @@ pub fn unused_recipe(rng: &mut Prng, draft: &Draft) -> u64 {
 
 // ---------------------------------------------------------------- units
 
+/// A standard near whose start a unit is made: the last of the list, the first, or any.
+fn standard_to_meet(rng: &mut Prng, standards: &[Standard]) -> Standard {
+    match rng.below(8) {
+        0 => standards[standards.len() - 1],
+        1 => standards[0],
+        _ => rng.pick(standards),
+    }
+}
+
 fn unit_time(rng: &mut Prng, moments: &[u64], period: u64, start: u64) -> u64 {
     match rng.below(4) {
         0 => start,
@@ -307,7 +332,7 @@ fn unit_records(
         if units.len() as u64 == sizes.units {
             break;
         }
-        let standard = rng.pick(&draft.standards);
+        let standard = standard_to_meet(rng, &draft.standards);
         let time = unit_time(rng, moments, sizes.period, standard.start);
         let Some(theoretical) = in_force(draft, standard.recipe, time) else {
             continue;
