@@ -1,4 +1,3 @@
-pub mod ChainLaws
 pub mod Walks
 pub mod Listings
 pub mod Crediting

@@ -3,13 +3,13 @@
 use mathlib.Core.Path.{_≡_, refl, sym, _∙_}
 use mathlib.Core.Bool.{Bool, true, false, _&&_, _||_}
 use mathlib.Core.List.{List, [], _∷_, _++_}
-use Prim.Native.Nat.{ℕ, zero, suc, _+_, _*_, _^_, _≤_, _<_}
+use Prim.Native.Nat.{ℕ, zero, suc, _+_, _*_, _/_, _%_, _^_, _≤_, _<_}
 use native.Mathlib.Numerals.{add-one}
-use native.Mathlib.Decide.{ℕ-discrete}
+use native.Mathlib.Decide.{ℕ-discrete, decLt}
 use native.Mathlib.Omega.{arith}
 use lib.ListN.{length, getD, set, replicate, length-set, length-replicate, getD-replicate}
 use lib.Seq.{getD-set-same, getD-set-other}
-use lib.Dec.{eqb}
+use lib.Dec.{ltb, leb, eqb}
 use borrow.Author.Tests.{le-leb, lt-leb, le-ltb, lt-ltb, eq-eqb, ne-eqb}
 use Rattle.records.specs.declared.Standard.{Standard}
 use Rattle.records.specs.declared.Header.{Header}
@@ -26,9 +26,8 @@ use Rattle.rules.proofs.Spared.{not-among}
 use Rattle.rules.proofs.Keys.{sequenced-none}
 use Rattle.rules.specs.Sequence.{standardKey}
 use Rattle.rules.specs.Keys.{standardNumber, StandardFits, StandardsSequenced}
-use Rattle.theoretical.specs.Chains.{lastOf, entryOf}
-use Rattle.theoretical.specs.Listing.{Listing, Added, AllListed}
-use Rattle.theoretical.proofs.ChainLaws.{last-own, last-other}
+use Rattle.theoretical.specs.Listing.{entryOf, lastOf, Held, Listing, Added, AllListed}
+use Rattle.theoretical.proofs.Walks.{last-own, last-other}
 
 -- ---- the widths of a standard's fields
 
@@ -110,9 +109,28 @@ module _ (period : ℕ) (earlier : List Standard) (i before : ℕ) (s : Standard
           let after = q .next s fit ∙ lt-ltb before (standardNumber s) h in
           rw (lt-leb period (s .start) inside, ne-eqb (s .theoretical) 0 timed, not-among earlier s (q .rises) after, after)
 
+-- ---- a standard in the arrays
+
+module _ (at : ℕ → Standard) (n : ℕ) (E R : List ℕ) (held : Held at n E R) (i : ℕ) (h : i < n) (short : at i .theoretical < 2 ^ 27) where
+  -- its entry is below the next start's just where it starts at or before the time
+  pub entry-below : (time : ℕ) → ltb (getD E i 0) ((time + 1) * 2 ^ 27) ≡ leb (at i .start) time
+  entry-below time =
+      rw (held .entries i h)
+      (elim (decLt time (at i .start)) [
+        | yes l ↦ rw (lt-leb (at i .start) time l) (le-ltb (at i .start * 2 ^ 27 + at i .theoretical) ((time + 1) * 2 ^ 27) (omega arith))
+        | no g ↦ rw (le-leb (at i .start) time (omega arith)) (lt-ltb (at i .start * 2 ^ 27 + at i .theoretical) ((time + 1) * 2 ^ 27) (omega arith))
+      ])
+
+  -- it is read back as it was
+  pub read-back : _≡_ {A = Standard} (record { recipe = getD R i 0; start = getD E i 0 / 2 ^ 27; theoretical = getD E i 0 % 2 ^ 27 }) (at i)
+  read-back =
+      let start : getD E i 0 / 2 ^ 27 ≡ at i .start = omega (arith, held .entries i h) in
+      let theoretical : getD E i 0 % 2 ^ 27 ≡ at i .theoretical = omega (arith, held .entries i h) in
+      rw (held .recipes i h, start, theoretical)
+
 -- ---- one standard listed
 
-module _ (at : ℕ → Standard) (i : ℕ) (E B L : List ℕ) (listing : Listing at i E B L) (small : i < 512) (low : at i .recipe < 1024) where
+module _ (at : ℕ → Standard) (i : ℕ) (E R L : List ℕ) (listing : Listing at i E R L) (small : i < 512) (low : at i .recipe < 1024) where
   -- an array with what belongs to i at i
   kept : (X : List ℕ) (f : ℕ → ℕ) → length X ≡ 512 → ((j : ℕ) → j < i → getD X j 0 ≡ f j) → (j : ℕ) → j < i + 1 → getD (set X i (f i)) j 0 ≡ f j
   kept X f len h j l =
@@ -129,27 +147,27 @@ module _ (at : ℕ → Standard) (i : ℕ) (E B L : List ℕ) (listing : Listing
         | no q ↦ rw (last-other at recipe i q) (getD-set-other L (at i .recipe) recipe (suc i) 0 (λ e. q (sym e)) ∙ listing .lasts recipe h)
       ])
 
-  pub listed-more : Listing at (i + 1) (set E i (entryOf (at i))) (set B i (getD L (at i .recipe) 0)) (set L (at i .recipe) (i + 1))
+  pub listed-more : Listing at (i + 1) (set E i (entryOf (at i))) (set R i (at i .recipe)) (set L (at i .recipe) (i + 1))
   listed-more =
       record {
-        sized = (length-set E _ _ ∙ listing .sized .0, length-set B _ _ ∙ listing .sized .1, length-set L _ _ ∙ listing .sized .2);
-        chained =
+        sized = (length-set E _ _ ∙ listing .sized .0, length-set R _ _ ∙ listing .sized .1, length-set L _ _ ∙ listing .sized .2);
+        held =
             record {
               few = omega arith;
-              entries = kept E (λ j. entryOf (at j)) (listing .sized .0) (listing .chained .entries);
-              links = rw (listing .lasts (at i .recipe) low) (kept B (λ j. lastOf at (at j .recipe) j) (listing .sized .1) (listing .chained .links));
+              entries = kept E (λ j. entryOf (at j)) (listing .sized .0) (listing .held .entries);
+              recipes = kept R (λ j. at j .recipe) (listing .sized .1) (listing .held .recipes);
             };
         lasts = lasts-more;
       }
 
 -- empty arrays hold no standard
-pub listing-none : (at : ℕ → Standard) (E B L : List ℕ) → E ≡ replicate 512 0 → B ≡ replicate 512 0 → L ≡ replicate 1024 0 → Listing at 0 E B L
+pub listing-none : (at : ℕ → Standard) (E R L : List ℕ) → E ≡ replicate 512 0 → R ≡ replicate 512 0 → L ≡ replicate 1024 0 → Listing at 0 E R L
 unfolding lastOf
-listing-none at E B L ee eb el =
-    rw (ee, eb, el)
+listing-none at E R L ee er el =
+    rw (ee, er, el)
     (record {
       sized = (length-replicate {A = ℕ} 512 0, length-replicate {A = ℕ} 512 0, length-replicate {A = ℕ} 1024 0);
-      chained = record { few = omega arith; entries = λ i h. absurd (omega arith); links = λ i h. absurd (omega arith) };
+      held = record { few = omega arith; entries = λ i h. absurd (omega arith); recipes = λ i h. absurd (omega arith) };
       lasts = λ recipe h. getD-replicate {A = ℕ} 1024 recipe 0 0 h;
     })
 
@@ -159,34 +177,34 @@ abbrev tests : ℕ → (ℕ → Standard) → ℕ → Verdict
 tests period at i = standardGround period (upTo at i) i (at i)
 
 -- the first i were tested, passed and listed
-pub record ListedTo (period : ℕ) (at : ℕ → Standard) (n i before : ℕ) (E B L : List ℕ) : Type 0 where
+pub record ListedTo (period : ℕ) (at : ℕ → Standard) (n i before : ℕ) (E R L : List ℕ) : Type 0 where
   pub within : i ≤ n
   pub fine : firstOf (tests period at) i ≡ Accepted
   pub sequenced : StandardsSequenced (upTo at i) before
-  pub listing : Listing at i E B L
+  pub listing : Listing at i E R L
 
 module _ (period : ℕ) (at : ℕ → Standard) (n : ℕ) where
-  pub listed-none : (E B L : List ℕ) → Listing at 0 E B L → ListedTo period at n 0 0 E B L
+  pub listed-none : (E R L : List ℕ) → Listing at 0 E R L → ListedTo period at n 0 0 E R L
   unfolding upTo
-  listed-none E B L l =
+  listed-none E R L l =
       record { within = omega arith; fine = first-none (tests period at); sequenced = sequenced-none standardKey standardNumber StandardFits (λ s. omega arith); listing = l }
 
-  pub listed-step : (i before : ℕ) (E B L : List ℕ) → i < n → ListedTo period at n i before E B L → (r : Verdict) (before′ : ℕ) (E′ B′ L′ : List ℕ) → Added period at i r before′ E′ B′ L′
-      → r ≡ Accepted → ListedTo period at n (i + 1) before′ E′ B′ L′
-  listed-step i before E B L h l r before′ E′ B′ L′ a e =
+  pub listed-step : (i before : ℕ) (E R L : List ℕ) → i < n → ListedTo period at n i before E R L → (r : Verdict) (before′ : ℕ) (E′ R′ L′ : List ℕ) → Added period at i r before′ E′ R′ L′
+      → r ≡ Accepted → ListedTo period at n (i + 1) before′ E′ R′ L′
+  listed-step i before E R L h l r before′ E′ R′ L′ a e =
       record { within = omega arith; fine = first-more (tests period at) i (l .fine) (sym (a .answer) ∙ e); sequenced = a .sequenced e; listing = a .listing e }
 
-  pub listed-stop : (i before : ℕ) (E B L : List ℕ) → i < n → ListedTo period at n i before E B L → (r : Verdict) (before′ : ℕ) (E′ B′ L′ : List ℕ) → Added period at i r before′ E′ B′ L′
-      → (x : Refusal) → r ≡ Refused x → AllListed period at n r E′ B′ L′
+  pub listed-stop : (i before : ℕ) (E R L : List ℕ) → i < n → ListedTo period at n i before E R L → (r : Verdict) (before′ : ℕ) (E′ R′ L′ : List ℕ) → Added period at i r before′ E′ R′ L′
+      → (x : Refusal) → r ≡ Refused x → AllListed period at n r E′ R′ L′
   unfolding standardGrounds
-  listed-stop i before E B L h l r before′ E′ B′ L′ a x e =
+  listed-stop i before E R L h l r before′ E′ R′ L′ a x e =
       record {
         answer = e ∙ sym (turn-range (standardGround period) at n ∙ first-stop (tests period at) n i x h (l .fine) (sym (a .answer) ∙ e));
         listing = λ f. absurd (refused-not (sym e ∙ f));
       }
 
-  pub listed-all : (i before : ℕ) (E B L : List ℕ) → n ≤ i → ListedTo period at n i before E B L → AllListed period at n Accepted E B L
+  pub listed-all : (i before : ℕ) (E R L : List ℕ) → n ≤ i → ListedTo period at n i before E R L → AllListed period at n Accepted E R L
   unfolding standardGrounds
-  listed-all i before E B L h l =
+  listed-all i before E R L h l =
       let q : i ≡ n = omega (arith, l .within) in
       record { answer = sym (turn-range (standardGround period) at n ∙ rw q at (l .fine)); listing = λ e. rw q at (l .listing) }

@@ -1,44 +1,92 @@
--- The walk along a recipe's chain for the last standard that has begun, turn by turn.
+-- The walk from the end of the standards towards the front of the list, turn by turn: what is passed over is not the answer.
 -- Assumes nothing.
 use mathlib.Core.Path.{_≡_, refl, sym, ap, _∙_}
-use Prim.Native.Nat.{ℕ, zero, suc, pred, _+_, _*_, _/_, _%_, _^_, _≤_, _<_}
+use mathlib.Core.Bool.{true, false}
+use mathlib.Core.Option.{some}
+use Prim.Native.Nat.{ℕ, zero, suc, _≤_, _<_}
+use native.Mathlib.Decide.{ℕ-discrete}
 use native.Mathlib.Omega.{arith}
+use borrow.Author.Tests.{eq-eqb, ne-eqb}
 use Rattle.records.specs.declared.Standard.{Standard}
 use Rattle.records.specs.Log.{upTo}
-use Rattle.rules.specs.Theoretical.{lastWhere, lastInForce}
+use Rattle.rules.specs.Theoretical.{hasBegun, lastWhere, lastInForce}
+use Rattle.rules.proofs.InForce.{other-recipe, not-begun, begun}
+use Rattle.rules.proofs.LastInForce.{last-where-more}
 use Rattle.theoretical.specs.declared.Lookup.the-variants.{Found, Nothing}
-use Rattle.theoretical.specs.Chains.{lastOf, entryOf, lookupOf}
-use Rattle.theoretical.proofs.ChainLaws.{Walk, walk-start, walk-next, begun-skip, begun-passed, begun-found}
+use Rattle.theoretical.specs.Listing.{lastOf, lookupOf}
 
--- the last that has begun among all n is the last among those up to the link
-pub record Searching (at : ℕ → Standard) (n recipe time link : ℕ) : Type 0 where
-  pub walk : Walk at n recipe link
-  pub same : lastInForce (upTo at n) recipe time ≡ lastInForce (upTo at link) recipe time
+module _ (at : ℕ → Standard) (recipe : ℕ) where
+  -- ---- the last of the recipe
 
-module _ (at : ℕ → Standard) (n recipe time : ℕ) where
-  pub searching-start : (link : ℕ) → link ≡ lastOf at recipe n → Searching at n recipe time link
-  searching-start link e = record { walk = walk-start at n recipe link e; same = rw e (begun-skip at recipe time n) }
+  pub last-own : (n : ℕ) → at n .recipe ≡ recipe → lastOf at recipe (suc n) ≡ suc n
+  unfolding lastOf
+  last-own n e = rw (eq-eqb (at n .recipe) recipe e)
 
-  -- a standard that has not begun, by its entry
-  pub searching-passed : (link entry next : ℕ) → 0 < link → Searching at n recipe time link → entry ≡ entryOf (at (pred link)) → at (pred link) .theoretical < 2 ^ 27 → (time + 1) * 2 ^ 27 ≤ entry
-      → next ≡ lastOf at (at (pred link) .recipe) (pred link)
-      → (Searching at n recipe time next) × (next < link)
-  searching-passed zero entry next pos l q short h e = absurd (omega arith)
-  searching-passed (suc i) entry next pos l q short h e =
-      let w = walk-next at n recipe (suc i) next pos (l .walk) e in
-      let f : next ≡ lastOf at recipe i = e ∙ ap (λ (r : ℕ). lastOf at r i) (l .walk .own i refl) in
-      (record { walk = w .0; same = rw f (l .same ∙ begun-passed at recipe time i (omega arith)) }, w .1)
+  pub last-other : (n : ℕ) → (at n .recipe ≡ recipe → ⊥) → lastOf at recipe (suc n) ≡ lastOf at recipe n
+  unfolding lastOf
+  last-other n ne = rw (ne-eqb (at n .recipe) recipe ne)
 
-  -- the first that has is the one
-  pub searching-found : (link entry : ℕ) → 0 < link → Searching at n recipe time link → entry ≡ entryOf (at (pred link)) → at (pred link) .theoretical < 2 ^ 27 → entry < (time + 1) * 2 ^ 27
-      → Found (record { recipe = recipe; start = entry / 2 ^ 27; theoretical = entry % 2 ^ 27 }) ≡ lookupOf (lastInForce (upTo at n) recipe time)
-  searching-found zero entry pos l q short h = absurd (omega arith)
-  searching-found (suc i) entry pos l q short h =
-      let start : entry / 2 ^ 27 ≡ at i .start = omega arith in
-      let theoretical : entry % 2 ^ 27 ≡ at i .theoretical = omega arith in
-      rw (l .same, begun-found at recipe time i (l .walk .own i refl) (omega arith), start, theoretical)
-      (ap Found (λ j. record { recipe = sym (l .walk .own i refl) j; start = at i .start; theoretical = at i .theoretical }))
+  last-le : (n : ℕ) → lastOf at recipe n ≤ n
+  unfolding lastOf
+  last-le zero = omega arith
+  last-le (suc n) =
+      elim (ℕ-discrete (at n .recipe) recipe) [
+        | yes e ↦ rw (last-own n e) (omega arith)
+        | no ne ↦ rw (last-other n ne) (omega (arith, last-le n))
+      ]
 
-  pub searching-end : (link : ℕ) → link ≡ 0 → Searching at n recipe time link → Nothing ≡ lookupOf (lastInForce (upTo at n) recipe time)
-  unfolding upTo lastWhere
-  searching-end link e l = sym (ap lookupOf (l .same ∙ ap (λ (k : ℕ). lastInForce (upTo at k) recipe time) e))
+  last-is : (n i : ℕ) → lastOf at recipe n ≡ suc i → at i .recipe ≡ recipe
+  unfolding lastOf
+  last-is zero i e = absurd (omega arith)
+  last-is (suc n) i e =
+      elim (ℕ-discrete (at n .recipe) recipe) [
+        | yes o ↦ let q : n ≡ i = omega (arith, last-own n o) in rw q at o
+        | no ne ↦ last-is n i (sym (last-other n ne) ∙ e)
+      ]
+
+  module _ (time : ℕ) where
+    -- ---- a turn of the walk
+
+    -- the answer is among the first `left` of the n
+    pub record Searching (n left : ℕ) : Type 0 where
+      pub within : left ≤ n
+      pub same : lastInForce (upTo at n) recipe time ≡ lastInForce (upTo at left) recipe time
+
+    pub from-the-end : (n : ℕ) → Searching n n
+    from-the-end n = record { within = omega arith; same = refl }
+
+    -- one that has not begun is passed over
+    pub passed : (n i : ℕ) → Searching n (suc i) → hasBegun recipe time (at i) ≡ false → Searching n i
+    passed n i s e = record { within = omega (arith, s .within); same = s .same ∙ last-where-more (hasBegun recipe time) at i ∙ rw e }
+
+    -- the first that has is the one
+    pub found : (n i : ℕ) → Searching n (suc i) → hasBegun recipe time (at i) ≡ true → Found (at i) ≡ lookupOf (lastInForce (upTo at n) recipe time)
+    found n i s e =
+        let answer : lastInForce (upTo at n) recipe time ≡ some (at i) = s .same ∙ last-where-more (hasBegun recipe time) at i ∙ rw e in
+        sym (ap lookupOf answer)
+
+    pub at-the-front : (n left : ℕ) → left ≡ 0 → Searching n left → Nothing ≡ lookupOf (lastInForce (upTo at n) recipe time)
+    unfolding upTo lastWhere
+    at-the-front n left e s = sym (ap lookupOf (s .same ∙ ap (λ (k : ℕ). lastInForce (upTo at k) recipe time) e))
+
+    -- ---- from the recipe's last
+
+    skipped : (n : ℕ) → lastInForce (upTo at n) recipe time ≡ lastInForce (upTo at (lastOf at recipe n)) recipe time
+    unfolding lastOf
+    skipped zero = refl
+    skipped (suc n) =
+        elim (ℕ-discrete (at n .recipe) recipe) [
+          | yes e ↦ rw (last-own n e)
+          | no ne ↦ rw (last-other n ne) (passed (suc n) n (from-the-end (suc n)) (other-recipe recipe time (at n) ne) .same ∙ skipped n)
+        ]
+
+    -- those behind it are other recipes'
+    pub from-the-last : (n from : ℕ) → from ≡ lastOf at recipe n → Searching n from
+    from-the-last n from e = record { within = rw e (last-le n); same = rw e (skipped n) }
+
+    module _ (n from i : ℕ) (e : from ≡ lastOf at recipe n) (one : from ≡ suc i) where
+      pub last-found : at i .start ≤ time → Found (at i) ≡ lookupOf (lastInForce (upTo at n) recipe time)
+      last-found h = found n i (rw one at (from-the-last n from e)) (begun recipe time (at i) (last-is n i (sym e ∙ one)) h)
+
+      pub last-passed : time < at i .start → Searching n i
+      last-passed h = passed n i (rw one at (from-the-last n from e)) (not-begun recipe time (at i) h)

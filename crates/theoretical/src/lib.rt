@@ -1,16 +1,16 @@
 // Credits each unit with the theoretical time in force when it was made: the standards are tested and listed once, then the unit records are tested and summed.
 ghost use mathlib.Core.Path.{_≡_};
-ghost use Prim.Native.Nat.{pred, _+_, _*_, _^_, _<_, _≤_};
+ghost use mathlib.Core.Bool.{true};
+ghost use Prim.Native.Nat.{_+_, _*_, _^_, _<_, _≤_};
+ghost use lib.Dec.{leb};
 ghost use lib.ListN.{getD, set, replicate};
 ghost use Rattle.records.specs.Log.{upTo, standardAt, unitAt};
 ghost use Rattle.records.specs.Covers.{Covers};
-ghost use mathlib.Core.Bool.{true};
-ghost use Rattle.rules.specs.Theoretical.{lastInForce};
+ghost use Rattle.rules.specs.Theoretical.{hasBegun, lastInForce};
 ghost use Rattle.rules.specs.Sequence.{isRising, standardKey};
 ghost use Rattle.rules.specs.Keys.{standardNumber, StandardFits, StandardsSequenced, unitNumber, UnitFits, UnitsSequenced};
 ghost use Rattle.rules.specs.RecordGrounds.{isAmong, standardGround};
-ghost use Rattle.theoretical.specs.Chains.{lastOf, entryOf, lookupOf};
-ghost use Rattle.theoretical.specs.Listing.{Chained, Listing, Added, AllListed};
+ghost use Rattle.theoretical.specs.Listing.{Held, Listing, Added, AllListed, lookupOf};
 ghost use Rattle.theoretical.specs.Credits.{ownGrounds, SumsSoFar, OneUnit, AllUnits, Units};
 use records::Header;
 use records::Standard;
@@ -34,95 +34,118 @@ fn refused(number: usize, list: usize, place: usize) -> Verdict
     })
 }
 
-// The entry of the standard that a link leads to: its start and, in the last 27 bits, its theoretical time. So the later of two starts has the greater
-// entry.
-fn entry_at(
+// Whether standard i starts at or before a time. Its entry is its start and, in the last 27 bits, its theoretical time.
+fn starts_by(
     log: &[u8],
     h: Header,
     n: usize,
     entries: &[u64; 512],
-    links: &[usize; 512],
-    link: usize,
-) -> u64
-    requires { ⌜ Chained (standardAt (now log) h) n (now entries) (now links) ⌝ }
-    requires { ⌜ (0 < link) × (link ≤ n) ⌝ }
-    ensures { λ r. ⌜ r ≡ entryOf (standardAt (now (log .entry)) h (pred link)) ⌝ }
+    recipes: &[u16; 512],
+    i: usize,
+    time: u64,
+) -> bool
+    requires { ⌜ Held (standardAt (now log) h) n (now entries) (now recipes) ⌝ }
+    requires { ⌜ (i < n) × (time < 2 ^ 35) ⌝ }
+    ensures { λ r. ⌜ r ≡ leb (standardAt (now (log .entry)) h i .start) time ⌝ }
 {
-    entries[link - 1]
+    entries[i] < (time + 1) * 0x800_0000
 }
 
-// The link to the standard of the same recipe before it.
-fn link_before(
+// Whether standard i is the recipe's and starts at or before the time.
+fn has_begun(
     log: &[u8],
     h: Header,
     n: usize,
     entries: &[u64; 512],
-    links: &[usize; 512],
-    link: usize,
-) -> usize
-    requires { ⌜ Chained (standardAt (now log) h) n (now entries) (now links) ⌝ }
-    requires { ⌜ (0 < link) × (link ≤ n) ⌝ }
-    ensures { λ r. ⌜ r ≡ lastOf (standardAt (now (log .entry)) h) (standardAt (now (log .entry)) h (pred link) .recipe) (pred link) ⌝ }
+    recipes: &[u16; 512],
+    i: usize,
+    recipe: usize,
+    time: u64,
+) -> bool
+    requires { ⌜ Held (standardAt (now log) h) n (now entries) (now recipes) ⌝ }
+    requires { ⌜ (i < n) × (time < 2 ^ 35) ⌝ }
+    ensures { λ r. ⌜ r ≡ hasBegun recipe time (standardAt (now (log .entry)) h i) ⌝ }
 {
-    links[link - 1]
+    if starts_by(log, h, n, entries, recipes, i, time) {
+        recipes[i] as usize == recipe
+    } else {
+        false
+    }
 }
 
-// What the entries of the standards that have begun by a time are below.
-fn limit_of(time: u64) -> u64
-    requires { ⌜ time < 2 ^ 35 ⌝ }
-    ensures { λ r. ⌜ r ≡ (time + 1) * 2 ^ 27 ⌝ }
+// Standard i.
+fn standard_at(
+    log: &[u8],
+    h: Header,
+    n: usize,
+    entries: &[u64; 512],
+    recipes: &[u16; 512],
+    i: usize,
+) -> Standard
+    requires { ⌜ Held (standardAt (now log) h) n (now entries) (now recipes) ⌝ }
+    requires { ⌜ i < n ⌝ }
+    ensures { λ r. ⌜ r ≡ standardAt (now (log .entry)) h i ⌝ }
 {
-    (time + 1) * 0x800_0000
+    let entry = entries[i];
+    Standard {
+        recipe: recipes[i] as usize,
+        start: entry / 0x800_0000,
+        theoretical: entry % 0x800_0000,
+    }
 }
 
-// From the recipe's last standard towards the front of the list: the first on the way that has begun, or none.
+// The walk over the first `from` standards, from the last of them towards the front of the list: the first on the way that is the recipe's and starts at or
+// before the time, or none.
 fn walk_back(
     log: &[u8],
     h: Header,
     n: usize,
     entries: &[u64; 512],
-    links: &[usize; 512],
+    recipes: &[u16; 512],
     from: usize,
     recipe: usize,
     time: u64,
 ) -> Lookup
-    requires { ⌜ Chained (standardAt (now log) h) n (now entries) (now links) ⌝ }
-    requires { ⌜ (from ≡ lastOf (standardAt (now log) h) recipe n) × (time < 2 ^ 35) ⌝ }
-    ensures { λ r. ⌜ r ≡ lookupOf (lastInForce (upTo (standardAt (now (log .entry)) h) n) recipe time) ⌝ }
+    requires { ⌜ Held (standardAt (now log) h) n (now entries) (now recipes) ⌝ }
+    requires { ⌜ (from ≤ n) × (time < 2 ^ 35) ⌝ }
+    ensures { λ r. ⌜ r ≡ lookupOf (lastInForce (upTo (standardAt (now (log .entry)) h) from) recipe time) ⌝ }
 {
-    let limit = limit_of(time);
-    let mut link = from;
-    while link != 0 {
-        let entry = entry_at(log, h, n, entries, links, link);
-        if entry < limit {
-            return Lookup::Found(Standard {
-                recipe,
-                start: entry / 0x800_0000,
-                theoretical: entry % 0x800_0000,
-            });
+    let mut left = from;
+    while left != 0 {
+        let i = left - 1;
+        if has_begun(log, h, n, entries, recipes, i, recipe, time) {
+            return Lookup::Found(standard_at(log, h, n, entries, recipes, i));
         }
-        link = link_before(log, h, n, entries, links, link);
+        left = i;
     }
     Lookup::Nothing
 }
 
-// The last standard of the list, rising or not, that is the recipe's and starts at or before the time, or none.
+// The last standard of the list, rising or not, that is the recipe's and starts at or before the time, or none. `last` leads to the recipe's last, past those of
+// other recipes behind it: nearly always that one has begun, and else the walk goes on from there.
 fn look_up(
     log: &[u8],
     h: Header,
     n: usize,
     entries: &[u64; 512],
-    links: &[usize; 512],
-    last: &[usize; 1024],
+    recipes: &[u16; 512],
+    last: &[u16; 1024],
     recipe: usize,
     time: u64,
 ) -> Lookup
-    requires { ⌜ Listing (standardAt (now log) h) n (now entries) (now links) (now last) ⌝ }
+    requires { ⌜ Listing (standardAt (now log) h) n (now entries) (now recipes) (now last) ⌝ }
     requires { ⌜ (recipe < 1024) × (time < 2 ^ 35) ⌝ }
     ensures { λ r. ⌜ r ≡ lookupOf (lastInForce (upTo (standardAt (now (log .entry)) h) n) recipe time) ⌝ }
 {
-    let from = last[recipe];
-    walk_back(log, h, n, entries, links, from, recipe, time)
+    let from = last[recipe] as usize;
+    if from == 0 {
+        return Lookup::Nothing;
+    }
+    let newest = from - 1;
+    if starts_by(log, h, n, entries, recipes, newest, time) {
+        return Lookup::Found(standard_at(log, h, n, entries, recipes, newest));
+    }
+    walk_back(log, h, n, entries, recipes, newest, recipe, time)
 }
 
 // A standard's recipe and start in one number above 0, by which standards ascend.
@@ -171,24 +194,24 @@ fn test_standard(log: &[u8], h: Header, i: usize, before: u64, s: Standard) -> V
     Verdict::Accepted
 }
 
-// Standard i put into the arrays, behind the last one of its recipe.
+// Standard i put into the arrays: it is the last one of its recipe.
 fn store_standard(
     log: &[u8],
     h: Header,
     i: usize,
     entries: &mut [u64; 512],
-    links: &mut [usize; 512],
-    last: &mut [usize; 1024],
+    recipes: &mut [u16; 512],
+    last: &mut [u16; 1024],
     s: Standard,
 )
-    requires { ⌜ Listing (standardAt (now log) h) i (now entries) (now links) (now last) ⌝ }
+    requires { ⌜ Listing (standardAt (now log) h) i (now entries) (now recipes) (now last) ⌝ }
     requires { ⌜ (s ≡ standardAt (now log) h i) × (i < 512) ⌝ }
-    ensures { λ r. ⌜ Listing (standardAt (now (log .entry)) h) (i + 1) (now (entries .exit)) (now (links .exit)) (now (last .exit)) ⌝ }
+    ensures { λ r. ⌜ Listing (standardAt (now (log .entry)) h) (i + 1) (now (entries .exit)) (now (recipes .exit)) (now (last .exit)) ⌝ }
 {
     let recipe = s.recipe;
     entries[i] = s.start * 0x800_0000 + s.theoretical;
-    links[i] = last[recipe];
-    last[recipe] = i + 1;
+    recipes[i] = recipe as u16;
+    last[recipe] = (i + 1) as u16;
 }
 
 // Standard i tested, and listed where it passes.
@@ -198,13 +221,13 @@ fn list_standard(
     i: usize,
     before: &mut u64,
     entries: &mut [u64; 512],
-    links: &mut [usize; 512],
-    last: &mut [usize; 1024],
+    recipes: &mut [u16; 512],
+    last: &mut [u16; 1024],
 ) -> Verdict
     requires { ⌜ StandardsSequenced (upTo (standardAt (now log) h) i) (now before) ⌝ }
-    requires { ⌜ Listing (standardAt (now log) h) i (now entries) (now links) (now last) ⌝ }
+    requires { ⌜ Listing (standardAt (now log) h) i (now entries) (now recipes) (now last) ⌝ }
     requires { ⌜ (i < 512) × Covers (now log) (10 + 6 * h .states + 9 * i + 9) ⌝ }
-    ensures { λ r. ⌜ Added (h .period) (standardAt (now (log .entry)) h) i r (now (before .exit)) (now (entries .exit)) (now (links .exit)) (now (last .exit)) ⌝ }
+    ensures { λ r. ⌜ Added (h .period) (standardAt (now (log .entry)) h) i r (now (before .exit)) (now (entries .exit)) (now (recipes .exit)) (now (last .exit)) ⌝ }
 {
     let s = records::standard_within(log, h, i);
     let verdict = test_standard(log, h, i, *before, s);
@@ -212,7 +235,7 @@ fn list_standard(
         return verdict;
     }
     *before = standard_number(s);
-    store_standard(log, h, i, entries, links, last, s);
+    store_standard(log, h, i, entries, recipes, last, s);
     Verdict::Accepted
 }
 
@@ -221,17 +244,17 @@ fn list_standards(
     log: &[u8],
     h: Header,
     entries: &mut [u64; 512],
-    links: &mut [usize; 512],
-    last: &mut [usize; 1024],
+    recipes: &mut [u16; 512],
+    last: &mut [u16; 1024],
 ) -> Verdict
     requires { ⌜ (h .standards ≤ 512) × Covers (now log) (10 + 6 * h .states + 9 * h .standards) ⌝ }
-    requires { ⌜ Listing (standardAt (now log) h) 0 (now entries) (now links) (now last) ⌝ }
-    ensures { λ r. ⌜ AllListed (h .period) (standardAt (now (log .entry)) h) (h .standards) r (now (entries .exit)) (now (links .exit)) (now (last .exit)) ⌝ }
+    requires { ⌜ Listing (standardAt (now log) h) 0 (now entries) (now recipes) (now last) ⌝ }
+    ensures { λ r. ⌜ AllListed (h .period) (standardAt (now (log .entry)) h) (h .standards) r (now (entries .exit)) (now (recipes .exit)) (now (last .exit)) ⌝ }
 {
     let mut before = 0;
     let n = h.standards;
     for i in 0..n {
-        let verdict = list_standard(log, h, i, &mut before, entries, links, last);
+        let verdict = list_standard(log, h, i, &mut before, entries, recipes, last);
         if let Verdict::Refused(_) = verdict {
             return verdict;
         }
@@ -282,13 +305,13 @@ fn credit_unit(
     i: usize,
     byte: usize,
     entries: &[u64; 512],
-    links: &[usize; 512],
-    last: &[usize; 1024],
+    recipes: &[u16; 512],
+    last: &[u16; 1024],
     before: &mut u64,
     actual: &mut [u64; 64],
     effective: &mut [u64; 64],
 ) -> Verdict
-    requires { ⌜ Listing (standardAt (now log) h) (h .standards) (now entries) (now links) (now last) ⌝ }
+    requires { ⌜ Listing (standardAt (now log) h) (h .standards) (now entries) (now recipes) (now last) ⌝ }
     requires { ⌜ isRising standardKey (upTo (standardAt (now log) h) (h .standards)) ≡ true ⌝ }
     requires { ⌜ UnitsSequenced (upTo (unitAt (now log) h) i) (now before) ⌝ }
     requires { ⌜ SumsSoFar (upTo (standardAt (now log) h) (h .standards)) (upTo (unitAt (now log) h) i) i (now actual) (now effective) ⌝ }
@@ -301,7 +324,7 @@ fn credit_unit(
         return own;
     }
     let n = h.standards;
-    let Lookup::Found(s) = look_up(log, h, n, entries, links, last, u.recipe, u.time) else {
+    let Lookup::Found(s) = look_up(log, h, n, entries, recipes, last, u.recipe, u.time) else {
         return refused(15, 3, i);
     };
     let number = unit_number(u);
@@ -320,12 +343,12 @@ fn credit_listed(
     log: &[u8],
     h: Header,
     entries: &[u64; 512],
-    links: &[usize; 512],
-    last: &[usize; 1024],
+    recipes: &[u16; 512],
+    last: &[u16; 1024],
     actual: &mut [u64; 64],
     effective: &mut [u64; 64],
 ) -> Verdict
-    requires { ⌜ Listing (standardAt (now log) h) (h .standards) (now entries) (now links) (now last) ⌝ }
+    requires { ⌜ Listing (standardAt (now log) h) (h .standards) (now entries) (now recipes) (now last) ⌝ }
     requires { ⌜ isRising standardKey (upTo (standardAt (now log) h) (h .standards)) ≡ true ⌝ }
     requires { ⌜ SumsSoFar (upTo (standardAt (now log) h) (h .standards)) (upTo (unitAt (now log) h) 0) 0 (now actual) (now effective) ⌝ }
     requires { ⌜ (h .units ≤ 2000) × Covers (now log) (10 + 6 * h .states + 9 * h .standards + 11 * h .units) ⌝ }
@@ -341,7 +364,7 @@ fn credit_listed(
             i,
             byte,
             entries,
-            links,
+            recipes,
             last,
             &mut before,
             actual,
@@ -368,11 +391,11 @@ pub fn credit_units(
     ensures { λ r. ⌜ Units (h .period) (h .modules) (upTo (standardAt (now (log .entry)) h) (h .standards)) (upTo (unitAt (now (log .entry)) h) (h .units)) r (now (actual .exit)) (now (effective .exit)) ⌝ }
 {
     let mut entries = [0u64; 512];
-    let mut links = [0usize; 512];
-    let mut last = [0usize; 1024];
-    let verdict = list_standards(log, h, &mut entries, &mut links, &mut last);
+    let mut recipes = [0u16; 512];
+    let mut last = [0u16; 1024];
+    let verdict = list_standards(log, h, &mut entries, &mut recipes, &mut last);
     if let Verdict::Refused(_) = verdict {
         return verdict;
     }
-    credit_listed(log, h, &entries, &links, &last, actual, effective)
+    credit_listed(log, h, &entries, &recipes, &last, actual, effective)
 }

@@ -17,7 +17,7 @@ use Rattle.rules.specs.Theoretical.{inForce, Answers}
 use Rattle.rules.proofs.InForce.{in-force}
 use Rattle.rules.proofs.LastInForce.{last-in-force}
 use Rattle.theoretical.specs.declared.Lookup.the-variants.{Found, Nothing}
-use Rattle.theoretical.specs.Chains.{lookupOf}
+use Rattle.theoretical.specs.Listing.{lookupOf}
 use Rattle.theoretical.proofs.Crediting.{unit-own, unit-none, unit-unsorted, unit-credited}
 use Rattle.theoretical.proofs.credit_unit.Statement.{statement}
 use Rattle.theoretical.proofs.credit_unit.Tie as tie

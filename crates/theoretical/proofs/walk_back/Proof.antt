@@ -1,63 +1,55 @@
--- `theoretical::walk_back` meets its contract: a standard on the chain that has not begun is passed over, and the first that has is the last of the list.
+-- `theoretical::walk_back` meets its contract: a standard that is not the recipe's or has not begun is passed over, and the first that has is the last of them.
 -- Assumes nothing.
 use borrow.Author.Needs.{needs}
-use mathlib.Core.Path.{_≡_}
-use Prim.Native.Nat.{pred, _+_, _*_, _^_, _<_}
+use mathlib.Core.Path.{_≡_, sym, _∙_}
+use Prim.Native.Nat.{suc, _-_}
 use native.Mathlib.Omega.{arith}
 use Rattle.records.specs.Log.{standardAt}
-use Rattle.theoretical.proofs.Listings.{time-low}
-use Rattle.theoretical.proofs.Walks.{Searching, searching-start, searching-passed, searching-found, searching-end}
+use Rattle.theoretical.proofs.Walks.{Searching, from-the-end, passed, found, at-the-front}
 use Rattle.theoretical.proofs.walk_back.Statement.{statement}
 use Rattle.theoretical.proofs.walk_back.Tie as tie
 
 abbrev Inv-loop : tie.InvT-loop
-Inv-loop log h n entries links from recipe time limit link₀ link = (limit ≡ (time + 1) * 2 ^ 27) × Searching (standardAt log h) n recipe time link
+Inv-loop log h n entries recipes from recipe time left₀ left = Searching (standardAt log h) recipe time from left
 
 abbrev μ-loop : tie.MeasureT-loop
-μ-loop log h n entries links from recipe time limit link₀ link = link
+μ-loop log h n entries recipes from recipe time left₀ left = left
 
 loop-holds : tie.Need-loop-holds Inv-loop μ-loop
-loop-holds c =
-    let s = c .before .before in
-    let a = s .args in
-    (c .limit-of .ensures, searching-start (standardAt (a .log .now) (a .h)) (a .n) (a .recipe) (a .time) (a .from) (s .pre .1 .0))
+loop-holds c = let a = c .before .args in from-the-end (standardAt (a .log .now) (a .h)) (a .recipe) (a .time) (a .from)
 
-entry-at-requires : tie.Need-entry-at-requires Inv-loop μ-loop
-entry-at-requires c κs = (c .before .before .before .before .pre .0, omega (arith, c .before .loop .inv .1 .walk .within, c .loop-test .taken))
+has-begun-requires : tie.Need-has-begun-requires Inv-loop μ-loop
+has-begun-requires c κs = let s = c .before .before .before in (s .pre .0, (omega (arith, c .loop-test .taken, c .before .loop .inv .within, s .pre .1 .0), s .pre .1 .1))
+
+standard-at-requires : tie.Need-standard-at-requires Inv-loop μ-loop
+standard-at-requires c κs = let h = has-begun-requires (c .before .before) κs in (h .0, h .1 .0)
+
+-- the answer is still among those up to the one in turn
+in-turn : (c : tie.In-loop Inv-loop μ-loop)
+    → let a = c .before .before .before .args in Searching (standardAt (a .log .now) (a .h)) (a .recipe) (a .time) (a .from) (suc (c .before .loop .left - 1))
+in-turn c =
+    let one : c .before .loop .left ≡ suc (c .before .loop .left - 1) = omega (arith, c .loop-test .taken) in
+    rw one at (c .before .loop .inv)
 
 returns : tie.Need-returns Inv-loop μ-loop
 returns c =
-    let e = c .before in
-    let l = e .before .before in
-    let a = l .before .before .before .args in
-    searching-found (standardAt (a .log .now) (a .h)) (a .n) (a .recipe) (a .time) (l .loop .link) (e .entry-at .result) (omega (arith, e .before .loop-test .taken)) (l .loop .inv .1)
-    (e .entry-at .ensures) (time-low (a .log .now) (a .h) (pred (l .loop .link))) (rw (← l .loop .inv .0) (c .if1 .taken))
-
-link-before-requires : tie.Need-link-before-requires Inv-loop μ-loop
-link-before-requires c κs =
-    let l = c .before .before .before in
-    (l .before .before .before .pre .0, omega (arith, l .loop .inv .1 .walk .within, c .before .before .loop-test .taken))
-
-abbrev head : tie.After-link-before Inv-loop μ-loop → tie.At-loop Inv-loop μ-loop
-head c = c .before .before .before .before
-
-turn : (c : tie.After-link-before Inv-loop μ-loop)
-    → let a = head c .before .before .before .args in (Searching (standardAt (a .log .now) (a .h)) (a .n) (a .recipe) (a .time) (c .link-before .result)) × (c .link-before .result < head c .loop .link)
-turn c =
-    let e = c .before .before in
-    let l = head c in
-    let a = l .before .before .before .args in
-    searching-passed (standardAt (a .log .now) (a .h)) (a .n) (a .recipe) (a .time) (l .loop .link) (e .entry-at .result) (c .link-before .result) (omega (arith, e .before .loop-test .taken)) (l .loop .inv .1)
-    (e .entry-at .ensures) (time-low (a .log .now) (a .h) (pred (l .loop .link))) (rw (← l .loop .inv .0) (c .before .if1 .left)) (c .link-before .ensures)
+    let t = c .before .before in
+    let l = t .before .before in
+    let a = l .before .before .args in
+    rw (c .standard-at .ensures) (found (standardAt (a .log .now) (a .h)) (a .recipe) (a .time) (a .from) (l .loop .left - 1) (in-turn (t .before)) (sym (t .has-begun .ensures) ∙ c .before .if1 .taken))
 
 loop-again : tie.Need-loop-again Inv-loop μ-loop
-loop-again c = (head c .loop .inv .0, turn c .0)
+loop-again c =
+    let t = c .before in
+    let l = t .before .before in
+    let a = l .before .before .args in
+    passed (standardAt (a .log .now) (a .h)) (a .recipe) (a .time) (a .from) (l .loop .left - 1) (in-turn (t .before)) (sym (t .has-begun .ensures) ∙ c .if1 .left)
 
 returns-2 : tie.Need-returns-2 Inv-loop μ-loop
 returns-2 c =
     let l = c .before in
-    let a = l .before .before .before .args in
-    searching-end (standardAt (a .log .now) (a .h)) (a .n) (a .recipe) (a .time) (l .loop .link) (omega (arith, c .loop-test .left)) (l .loop .inv .1)
+    let a = l .before .before .args in
+    at-the-front (standardAt (a .log .now) (a .h)) (a .recipe) (a .time) (a .from) (l .loop .left) (omega (arith, c .loop-test .left)) (l .loop .inv)
 
 pub walk-back-spec : {M : Type 1} → statement M
 walk-back-spec =
@@ -65,11 +57,11 @@ walk-back-spec =
     (tie.spec
     Inv-loop
     μ-loop
-    (λ c κs. search needs)
     loop-holds
-    entry-at-requires
+    (λ c. omega (arith, c .loop-test .taken))
+    has-begun-requires
+    standard-at-requires
     returns
-    link-before-requires
-    (λ c. turn c .1)
+    (λ c. omega (arith, c .before .before .loop-test .taken))
     loop-again
     returns-2)
