@@ -7,7 +7,7 @@ use e79::Quantities;
 use rules::Refusal;
 ghost use mathlib.Core.Path.{_≡_};
 ghost use mathlib.Core.List.{_++_};
-ghost use Prim.Native.Nat.{_+_, _≤_, _<_};
+ghost use Prim.Native.Nat.{_+_, _^_, _≤_, _<_};
 ghost use lib.ListN.{length};
 ghost use Rattle.e79.specs.Quantities.{Ordered, Portion};
 ghost use Rattle.filling.specs.Buffer.{Put, AtFront};
@@ -35,11 +35,12 @@ pub fn put_decimal(buf: &mut [u8], at: usize, n: u64) -> usize
     }
 }
 
-// Ten-thousandths with four places: 9702 is 0.9702.
-fn put_places(buf: &mut [u8], at: usize, p: u64) -> usize
-    requires { ⌜ at + 6 ≤ length (now buf) ⌝ }
-    ensures { λ r. ⌜ Put (places p) (now (buf .entry)) at r (now (buf .exit)) ⌝ }
+// Ten-thousandths with four places: 9702 is 0.9702. The compiler sees that p is below 2^32, which makes its digits cheap.
+fn put_places(buf: &mut [u8], at: usize, figure: u64) -> usize
+    requires { ⌜ (figure < 2 ^ 32) × (at + 6 ≤ length (now buf)) ⌝ }
+    ensures { λ r. ⌜ Put (places figure) (now (buf .entry)) at r (now (buf .exit)) ⌝ }
 {
+    let p = figure as u32 as u64;
     let text = [
         digit(p / 10000),
         b'.',

@@ -3,6 +3,7 @@ use mathlib.Core.Path.{sym, ap, _∙_}
 use mathlib.Core.List.{_++_}
 use native.Mathlib.Omega.{arith}
 use lib.ListN.{length}
+use Rattle.e79.proofs.Printing.{printed-le-one}
 use Rattle.report.specs.Text.{ascii}
 use Rattle.report.specs.Report.{places, shown, figure}
 use Rattle.filling.proofs.Written.{then, read-as}
@@ -29,7 +30,8 @@ put-places-requires c κs =
     let call = c .before .before .before .before in
     let start = call .before .before .before .before .before .before .before in
     let known = sym (call .printed-of-ordered .ensures) ∙ c .before .before .printed .given .1 in
-    omega (arith, figure-space (start .args .n) (start .args .d), ap (λ x. length (shown x)) known)
+    let low = printed-le-one (start .args .n) (start .args .d) _ (start .pre .0 .part) known in
+    (omega arith, omega (arith, figure-space (start .args .n) (start .args .d), ap (λ x. length (shown x)) known))
 
 enum-told : tie.Need-enum-told
 enum-told c = search needs

@@ -8,6 +8,12 @@ use borrow.Author.Needs.{needs}
 use Rattle.report.proofs.put_places.Statement.{statement}
 use Rattle.report.proofs.put_places.Tie as tie
 
+cast-p : tie.Need-cast-p
+cast-p c = search needs
+
+cast-p-2 : tie.Need-cast-p-2
+cast-p-2 c = search needs
+
 digit-requires : tie.Need-digit-requires
 digit-requires c κs = search needs
 
@@ -42,13 +48,15 @@ returns c =
     let last = c .before .before .before .before .before in
     let tenths = last .before .before .before in
     read-as
-    (text-is (tenths .before .before .before .args .p) (tenths .before .digit .ensures) (tenths .digit2 .ensures) (last .before .before .digit3 .ensures) (last .before .digit4 .ensures) (last .digit5 .ensures))
+    (text-is (tenths .before .before .before .args .figure) (tenths .before .digit .ensures) (tenths .digit2 .ensures) (last .before .before .digit3 .ensures) (last .before .digit4 .ensures) (last .digit5 .ensures))
     (c .before .before .put-text .ensures)
 
 pub put-places-spec : {M : Type 1} → statement M
 put-places-spec =
     tie.close
     (tie.spec
+    cast-p
+    cast-p-2
     digit-requires
     digit-requires-2
     digit-requires-3
