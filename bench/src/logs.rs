@@ -27,6 +27,10 @@ pub fn variants() -> Vec<Variant> {
             log: longest_units_anywhere(),
         },
         Variant {
+            name: "longest, first standard of one recipe",
+            log: longest_first_standard(),
+        },
+        Variant {
             name: "typical week of three modules",
             log: typical(),
         },
@@ -104,20 +108,34 @@ fn longest_many_recipes() -> Vec<u8> {
     draft.bytes()
 }
 
-/// 512 revisions of one recipe, units anywhere.
-fn longest_units_anywhere() -> Vec<u8> {
+/// 512 revisions of one recipe with these starts, units anywhere before a time.
+fn longest_units_before(end: u64, start: impl Fn(u64) -> u64) -> Vec<u8> {
     let rng = &mut Prng::new(4, 0);
     let mut draft = longest(rng);
     for revision in 0..MOST_STANDARDS {
-        draft.standard(7, revision * (LONGEST_PERIOD / 512), 200_000 - revision);
+        draft.standard(7, start(revision), 200_000 - revision);
     }
     for _ in 0..MOST_UNITS {
-        let (module, time) = (rng.below(MOST_MODULES), rng.below(LONGEST_PERIOD));
+        let (module, time) = (rng.below(MOST_MODULES), rng.below(end));
         let actual = rng.between(1, 50);
         draft.unit(module, 7, time, actual, rng.between(0, actual));
     }
     draft.sort();
     draft.bytes()
+}
+
+/// Revisions and units all over the period.
+fn longest_units_anywhere() -> Vec<u8> {
+    longest_units_before(LONGEST_PERIOD, |revision| revision * (LONGEST_PERIOD / 512))
+}
+
+/// The first revision holds until the last 511 ms, in which the others start, and every unit is made before.
+fn longest_first_standard() -> Vec<u8> {
+    let others = LONGEST_PERIOD - 511;
+    longest_units_before(others, |revision| match revision {
+        0 => 0,
+        _ => others + revision - 1,
+    })
 }
 
 /// 170 state records, 8 standards of 5 recipes, 120 lots of 25 wafers by time.

@@ -58,7 +58,7 @@ fn on_the_measured_logs() {
     let measured = logs::variants();
     let lengths: Vec<usize> = measured.iter().map(|variant| variant.log.len()).collect();
     let typical = 10 + 6 * 170 + 9 * 8 + 11 * 120;
-    assert_eq!(lengths, [62_618, 62_618, 62_618, typical]);
+    assert_eq!(lengths, [62_618, 62_618, 62_618, 62_618, typical]);
     for variant in measured {
         assert!(
             account(&variant.log).is_ok(),
