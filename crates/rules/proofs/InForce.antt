@@ -18,7 +18,7 @@ use Rattle.rules.specs.Theoretical.{later, hasBegun, consider, inForce, 
 
 -- ---- one more standard
 
-pub force-more : (at : ℕ → Standard) (n recipe time : ℕ) → inForce (upTo at (suc n)) recipe time ≡ consider recipe time (inForce (upTo at n) recipe time) (at n)
+force-more : (at : ℕ → Standard) (n recipe time : ℕ) → inForce (upTo at (suc n)) recipe time ≡ consider recipe time (inForce (upTo at n) recipe time) (at n)
 unfolding inForce upTo
 force-more at n recipe time = foldl-append (consider recipe time) none (upTo at n) (at n ∷ [])
 

@@ -1,6 +1,5 @@
 -- `theoretical::walk_back` meets its contract: a standard that is not the recipe's or has not begun is passed over, and the first that has is the last of them.
 -- Assumes nothing.
-use borrow.Author.Needs.{needs}
 use mathlib.Core.Path.{_≡_, sym, _∙_}
 use Prim.Native.Nat.{suc, _-_}
 use native.Mathlib.Omega.{arith}
