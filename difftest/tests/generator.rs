@@ -123,6 +123,43 @@ fn every_breach_is_met() {
 }
 
 /// R-1's promise: the records of an accepted log in another sequence are no accepted log.
+/// Why a unit has no standard: its recipe has none, or none that has begun; and which others have, those ahead of the recipe's in the list and those behind.
+fn lack(log: &Log, unit: &UnitRecord) -> String {
+    let own = |standard: &Standard| standard.recipe == unit.recipe;
+    let begun_where = |other: &dyn Fn(&Standard) -> bool| {
+        let mut others = log.standards.iter().filter(|standard| other(standard));
+        others.any(|standard| standard.start <= unit.time)
+    };
+    let of_recipe = if log.standards.iter().any(own) {
+        "none has begun"
+    } else {
+        "none"
+    };
+    let ahead = begun_where(&|standard| standard.recipe < unit.recipe);
+    let behind = begun_where(&|standard| standard.recipe > unit.recipe);
+    format!("{of_recipe}, others ahead {ahead}, behind {behind}")
+}
+
+#[test]
+fn every_lack_of_a_standard_is_met() {
+    let mut met = BTreeSet::new();
+    for index in 0..LOGS {
+        let made = make(9, index);
+        if let (Err(refusal), Ok(log)) = (account(&made.bytes), read(&made.bytes)) {
+            if refusal.number == 15 {
+                met.insert(lack(&log, &log.units[refusal.place as usize]));
+            }
+        }
+    }
+    let mut due = BTreeSet::new();
+    for own in ["none", "none has begun"] {
+        for (ahead, behind) in [(false, false), (false, true), (true, false), (true, true)] {
+            due.insert(format!("{own}, others ahead {ahead}, behind {behind}"));
+        }
+    }
+    assert_eq!(met, due);
+}
+
 #[test]
 fn the_same_records_are_the_same_bytes() {
     let mut other_bytes = 0;

@@ -471,27 +471,42 @@ fn over_good(rng: &mut Prng, draft: &mut Draft) -> Option<Refusal> {
     Some(Refusal::new(14, UNITS, place))
 }
 
+/// A unit of a recipe that has no standard, or none that has begun.
 fn no_standard(rng: &mut Prng, draft: &mut Draft) -> Option<Refusal> {
     let unused = unused_recipe(rng, draft);
     if draft.units.is_empty() {
         let time = rng.below(draft.period.max(1));
         let actual = edge_or_between(rng, 0, MOST_OF_A_RECORD);
         draft.unit(0, unused, time, actual, actual);
+        begin_later(rng, draft, unused, time);
         return Some(Refusal::new(15, UNITS, 0));
     }
     let place = place_of_unit(rng, draft)?;
-    let unit = &mut draft.units[place];
+    let UnitRecord { recipe, time, .. } = draft.units[place];
     let of_recipe = draft
         .standards
         .iter()
-        .filter(|standard| standard.recipe == unit.recipe);
+        .filter(|standard| standard.recipe == recipe);
     match of_recipe.map(|standard| standard.start).min() {
         Some(earliest) if earliest > 0 && rng.once_in(2) => {
-            unit.time = edge_or_between(rng, 0, earliest - 1);
+            draft.units[place].time = edge_or_between(rng, 0, earliest - 1);
         }
-        _ => unit.recipe = unused,
+        _ => {
+            draft.units[place].recipe = unused;
+            begin_later(rng, draft, unused, time);
+        }
     }
     Some(Refusal::new(15, UNITS, place))
+}
+
+/// Once in two, and where there is place for it, a standard of the recipe that starts after the time.
+fn begin_later(rng: &mut Prng, draft: &mut Draft, recipe: u64, time: u64) {
+    let room = (draft.standards.len() as u64) < MOST_STANDARDS && time + 1 < draft.period;
+    if room && rng.once_in(2) {
+        let start = edge_or_between(rng, time + 1, draft.period - 1);
+        let theoretical = edge_or_between(rng, 1, LONGEST_THEORETICAL);
+        add_standard(draft, recipe, start, theoretical);
+    }
 }
 
 /// Production time that the module's actual units leave.
