@@ -25,11 +25,13 @@ unfoldable pub lastOf : (ℕ → Standard) → ℕ → ℕ → ℕ
 lastOf at recipe zero = 0
 lastOf at recipe (suc n) = cond (eqb (at n .recipe) recipe) (suc n) (lastOf at recipe n)
 
+-- the entry and the recipe of each
 pub record Held (at : ℕ → Standard) (n : ℕ) (E R : List ℕ) : Type 0 where
   pub few : n ≤ 512
   pub entries : (i : ℕ) → i < n → getD E i 0 ≡ entryOf (at i)
   pub recipes : (i : ℕ) → i < n → getD R i 0 ≡ at i .recipe
 
+-- and the last of each recipe
 pub record Listing (at : ℕ → Standard) (n : ℕ) (E R L : List ℕ) : Type 0 where
   pub sized : (length E ≡ 512) × (length R ≡ 512) × (length L ≡ 1024)
   pub held : Held at n E R
