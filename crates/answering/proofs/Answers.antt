@@ -26,7 +26,7 @@ use Rattle.judging.specs.Working.{Consistent, JudgedInto}
 use Rattle.rules.proofs.Given.{Apart}
 use Rattle.answering.specs.Calls.{OnModule, of-log, stray}
 use Rattle.answering.specs.Summaries.{SummaryOf}
-use Rattle.judging.proofs.SumLaws.{sum-add, sum-same}
+use Rattle.rules.proofs.SumLaws.{sum-add, sum-same}
 use Rattle.judging.proofs.Accepted.{tool-ordered}
 
 -- ---- the tool's six times

@@ -23,7 +23,7 @@ use Rattle.rules.specs.Verdict.{fastGround, isOver, anyOver, anyTimeOver, sumGr
 use Rattle.rules.proofs.FirstGround.{then-left, then-right, refused-not, not-met, first-all}
 use Rattle.states.proofs.SixTimes.{state-time-le, six-times}
 use Rattle.judging.specs.Working.{Grounded, Consistent, SumsTested}
-use Rattle.judging.proofs.SumLaws.{sum-le, sum-each}
+use Rattle.rules.proofs.SumLaws.{sum-le, sum-each}
 
 -- ---- effective units are among the actual ones
 

@@ -9,7 +9,7 @@ use lib.ListN.{getD}
 use Rattle.records.specs.Log.{Log}
 use Rattle.rules.specs.Quantities.{sumBelow, timeIn, uptime, actualTime, effectiveTime}
 use Rattle.judging.specs.Working.{WorkingTotals, Consistent}
-use Rattle.judging.proofs.SumLaws.{sum-same, sum-each}
+use Rattle.rules.proofs.SumLaws.{sum-same, sum-each}
 
 module _ (l : Log) (s : Consistent l) (n : ℕ) (en : n ≡ l .modules) where
   -- an array that holds f of each module, none above the period

@@ -11,7 +11,7 @@ use Rattle.e79.specs.Quantities.{Ordered}
 use Rattle.rules.specs.declared.StateTimes.{StateTimes}
 use Rattle.rules.specs.Quantities.{sumBelow, timeIn, moduleTimes, toolTimes, ofModule, ofTool, timesOf, quantitiesOf}
 use Rattle.judging.specs.Working.{Consistent}
-use Rattle.judging.proofs.SumLaws.{sum-le}
+use Rattle.rules.proofs.SumLaws.{sum-le}
 use Rattle.judging.proofs.Accepted.{tool-total, tool-ordered}
 use Rattle.report.specs.Report.{decimal, short, tool}
 use Rattle.report.proofs.Decimals.{short-decimal, decimal-length}

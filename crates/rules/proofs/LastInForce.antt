@@ -10,9 +10,10 @@ use lib.Dec.{leb, eqb}
 use borrow.Author.Tests.{eqb-true, lt-leb}
 use Rattle.records.specs.declared.Standard.{Standard}
 use Rattle.records.specs.Log.{upTo, headerOf, standardAt, decode}
+use Rattle.rules.specs.declared.Placed.{Placed}
 use Rattle.rules.specs.declared.Verdict.the-variants.{Accepted}
 use Rattle.rules.specs.Sequence.{isRisingAfter, isRising, standardKey}
-use Rattle.rules.specs.Theoretical.{later, hasBegun, consider, inForce, Answers, lastWhere, lastInForce}
+use Rattle.rules.specs.Theoretical.{placed, placedFrom, later, hasBegun, consider, inForce, Answers, lastWhere, lastInForce}
 use Rattle.rules.specs.Verdict.{verdict}
 use Rattle.rules.proofs.Booleans.{both}
 use Rattle.rules.proofs.InForce.{in-force}
@@ -30,36 +31,41 @@ last-where-more test at n = foldl-append (λ found x. cond (test x) (some x) fou
 
 module _ (recipe time : ℕ) where
   -- the standard found so far is the recipe's, and those that follow are above it
-  abbrev Ahead : Option Standard → List Standard → Type 0
+  abbrev Ahead : Option Placed → List Standard → Type 0
   Ahead none ss = Unit {0}
-  Ahead (some b) ss = (b .recipe ≡ recipe) × AllAbove standardKey (standardKey b) ss
+  Ahead (some b) ss = (b .standard .recipe ≡ recipe) × AllAbove standardKey (standardKey (b .standard)) ss
 
-  ahead-tail : (found : Option Standard) (s : Standard) (ss : List Standard) → Ahead found (s ∷ ss) → Ahead found ss
+  ahead-tail : (found : Option Placed) (s : Standard) (ss : List Standard) → Ahead found (s ∷ ss) → Ahead found ss
   ahead-tail none s ss a = tt
   ahead-tail (some b) s ss a = (a .0, a .1 .1)
 
   -- so the next one of the recipe starts later
-  starts-later : (found : Option Standard) (s : Standard) (ss : List Standard) → Ahead found (s ∷ ss) → s .recipe ≡ recipe → some s ≡ later found s
-  starts-later none s ss a e = refl
-  starts-later (some b) s ss a e = rw (lt-leb (s .start) (b .start) (start-above b s (a .0 ∙ sym e) (a .1 .0)))
+  starts-later : (found : Option Placed) (i : ℕ) (s : Standard) (ss : List Standard) → Ahead found (s ∷ ss) → s .recipe ≡ recipe → some (placed i s) ≡ later found (placed i s)
+  starts-later none i s ss a e = refl
+  starts-later (some b) i s ss a e = rw (lt-leb (s .start) (b .standard .start) (start-above (b .standard) s (a .0 ∙ sym e) (a .1 .0)))
 
-  same : (found before : Option Standard) (ss : List Standard) → Ahead found ss → isRisingAfter standardKey before ss ≡ true
-      → foldl (λ found s. cond (hasBegun recipe time s) (some s) found) found ss ≡ foldl (consider recipe time) found ss
-  same found before [] a r = refl
-  same found before (s ∷ ss) a r = step (hasBegun recipe time s) refl (λ next h. same next (some s) ss h (rising-tail standardKey before s ss r))
+  -- the last that has begun, from one found before on
+  abbrev walked : Option Placed → List Placed → Option Placed
+  walked = foldl (λ found p. cond (hasBegun recipe time (p .standard)) (some p) found)
+
+  same : (found : Option Placed) (before : Option Standard) (i : ℕ) (ss : List Standard) → Ahead found ss → isRisingAfter standardKey before ss ≡ true
+      → walked found (placedFrom i ss) ≡ foldl (consider recipe time) found (placedFrom i ss)
+  unfolding placedFrom
+  same found before i [] a r = refl
+  same found before i (s ∷ ss) a r = step (hasBegun recipe time s) refl (λ next h. same next (some s) (suc i) ss h (rising-tail standardKey before s ss r))
     where
-      Same : Option Standard → Option Standard → Type 0
-      Same x y = foldl (λ found s. cond (hasBegun recipe time s) (some s) found) x ss ≡ foldl (consider recipe time) y ss
+      Same : Option Placed → Option Placed → Type 0
+      Same x y = walked x (placedFrom (suc i) ss) ≡ foldl (consider recipe time) y (placedFrom (suc i) ss)
 
-      step : (b : Bool) → hasBegun recipe time s ≡ b → ((next : Option Standard) → Ahead next ss → Same next next) → Same (cond b (some s) found) (cond b (later found s) found)
+      step : (b : Bool) → hasBegun recipe time s ≡ b → ((next : Option Placed) → Ahead next ss → Same next next) → Same (cond b (some (placed i s)) found) (cond b (later found (placed i s)) found)
       step true e rest =
           let own : s .recipe ≡ recipe = eqb-true (s .recipe) recipe (both (eqb (s .recipe) recipe) (leb (s .start) time) e .0) in
-          rw (← starts-later found s ss a own) (rest (some s) (own, rising-above standardKey s ss (rising-tail standardKey before s ss r)))
+          rw (← starts-later found i s ss a own) (rest (some (placed i s)) (own, rising-above standardKey s ss (rising-tail standardKey before s ss r)))
       step false e rest = rest found (ahead-tail found s ss a)
 
 pub last-in-force : (ss : List Standard) (recipe time : ℕ) → isRising standardKey ss ≡ true → lastInForce ss recipe time ≡ inForce ss recipe time
 unfolding lastWhere inForce
-last-in-force ss recipe time r = same recipe time none none ss tt r
+last-in-force ss recipe time r = same recipe time none none 0 ss tt r
 
 -- ---- on an accepted log
 
@@ -77,11 +83,11 @@ abbrev unsorted : List Standard
 unsorted = record { recipe = 5; start = 100; theoretical = 7 } ∷ record { recipe = 5; start = 0; theoretical = 8 } ∷ record { recipe = 5; start = 0; theoretical = 9 } ∷ []
 
 -- at 200 the one with the latest start is the first, and the last is another
-pub unsorted-differs : (inForce unsorted 5 200 ≡ some (record { recipe = 5; start = 100; theoretical = 7 })) × (lastInForce unsorted 5 200 ≡ some (record { recipe = 5; start = 0; theoretical = 9 }))
-unfolding inForce lastWhere
+pub unsorted-differs : (inForce unsorted 5 200 ≡ some (placed 0 (record { recipe = 5; start = 100; theoretical = 7 }))) × (lastInForce unsorted 5 200 ≡ some (placed 2 (record { recipe = 5; start = 0; theoretical = 9 })))
+unfolding inForce lastWhere placedFrom
 unsorted-differs = (refl, refl)
 
 -- at 50 two have the latest start: the first of them is in force, and the walk answers the last
-pub equal-starts-differ : (inForce unsorted 5 50 ≡ some (record { recipe = 5; start = 0; theoretical = 8 })) × (lastInForce unsorted 5 50 ≡ some (record { recipe = 5; start = 0; theoretical = 9 }))
-unfolding inForce lastWhere
+pub equal-starts-differ : (inForce unsorted 5 50 ≡ some (placed 1 (record { recipe = 5; start = 0; theoretical = 8 }))) × (lastInForce unsorted 5 50 ≡ some (placed 2 (record { recipe = 5; start = 0; theoretical = 9 })))
+unfolding inForce lastWhere placedFrom
 equal-starts-differ = (refl, refl)

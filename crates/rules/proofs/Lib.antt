@@ -10,3 +10,5 @@ pub mod Risen
 pub mod LastInForce
 pub mod SameBytes
 pub mod Given
+pub mod SumLaws
+pub mod Judged

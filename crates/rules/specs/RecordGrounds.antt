@@ -8,6 +8,7 @@ use lib.Dec.{leb, ltb, eqb}
 use Rattle.records.specs.declared.StateRecord.{StateRecord}
 use Rattle.records.specs.declared.Standard.{Standard}
 use Rattle.records.specs.declared.UnitRecord.{UnitRecord}
+use Rattle.rules.specs.declared.Placed.{Placed}
 use Rattle.rules.specs.declared.Verdict.{Verdict}
 use Rattle.rules.specs.Grounds.{ground, _then_, firstOf, eachOf, inTurn}
 use Rattle.rules.specs.Names.{noList, ofStates, ofStandards, ofUnits}
@@ -74,9 +75,9 @@ standardGrounds period ss = eachOf (standardGround period) ss
 
 -- ---- the unit records
 
-abbrev pub isNone : Option Standard → Bool
+abbrev pub isNone : Option Placed → Bool
 isNone none = true
-isNone (some s) = false
+isNone (some p) = false
 
 unfoldable pub unitGround : ℕ → ℕ → List Standard → List UnitRecord → ℕ → UnitRecord → Verdict
 unfolding inForce justBefore isBelow

@@ -1,57 +1,68 @@
--- The standard in force, what a walk from the end of the list answers, and the theoretical time of the units that a module made.
+-- The standard in force with its index, what a walk from the end of the list answers, the theoretical time of the units that a module made, and the units
+-- that a standard judges.
 -- Definitions only.
 use mathlib.Core.Path.{_≡_}
-use Prim.Native.Nat.{ℕ, _+_, _*_, _≤_, _<_}
+use Prim.Native.Nat.{ℕ, suc, _+_, _*_, _≤_, _<_}
 use mathlib.Core.List.{List, [], _∷_, foldl}
-use mathlib.Core.Bool.{Bool, _&&_, cond}
+use mathlib.Core.Bool.{Bool, false, _&&_, cond}
 use mathlib.Core.Option.{Option, none, some}
 use lib.Dec.{leb, eqb}
 use Rattle.records.specs.declared.Standard.{Standard}
 use Rattle.records.specs.declared.UnitRecord.{UnitRecord}
+use Rattle.rules.specs.declared.Placed.{Placed}
+
+-- a standard with its index
+abbrev pub placed : ℕ → Standard → Placed
+placed i s = record { index = i; standard = s }
+
+-- the standards of a list with their indexes, from i on
+unfoldable pub placedFrom : ℕ → List Standard → List Placed
+placedFrom i [] = []
+placedFrom i (s ∷ ss) = placed i s ∷ placedFrom (suc i) ss
 
 -- of the standard found so far and another, the one with the later start
-abbrev pub later : Option Standard → Standard → Option Standard
-later none s = some s
-later (some b) s = cond (leb (s .start) (b .start)) (some b) (some s)
+abbrev pub later : Option Placed → Placed → Option Placed
+later none p = some p
+later (some b) p = cond (leb (p .standard .start) (b .standard .start)) (some b) (some p)
 
 -- a standard is the recipe's and starts at or before the time
 abbrev pub hasBegun : ℕ → ℕ → Standard → Bool
 hasBegun recipe time s = eqb (s .recipe) recipe && leb (s .start) time
 
 -- after one more standard: it counts where it has begun
-abbrev pub consider : ℕ → ℕ → Option Standard → Standard → Option Standard
-consider recipe time found s = cond (hasBegun recipe time s) (later found s) found
+abbrev pub consider : ℕ → ℕ → Option Placed → Placed → Option Placed
+consider recipe time found p = cond (hasBegun recipe time (p .standard)) (later found p) found
 
 -- the standard in force: the recipe's with the latest start at or before the time
-unfoldable pub inForce : List Standard → ℕ → ℕ → Option Standard
-inForce ss recipe time = foldl (consider recipe time) none ss
+unfoldable pub inForce : List Standard → ℕ → ℕ → Option Placed
+unfolding placedFrom
+inForce ss recipe time = foldl (consider recipe time) none (placedFrom 0 ss)
 
--- the same in document 01's own words, of the first n standards: s, standard `index`, is the recipe's and starts at or before the time, and no other such
+-- the same in document 01's own words, of the first n standards: p is one of them, is the recipe's and starts at or before the time, and no other such
 -- standard starts later
-pub record Force (at : ℕ → Standard) (n recipe time : ℕ) (s : Standard) : Type 0 where
-  pub index : ℕ
-  pub listed : index < n
-  pub same : s ≡ at index
-  pub own : s .recipe ≡ recipe
-  pub begun : s .start ≤ time
-  pub latest : (i : ℕ) → i < n → at i .recipe ≡ recipe → at i .start ≤ time → at i .start ≤ s .start
+pub record Force (at : ℕ → Standard) (n recipe time : ℕ) (p : Placed) : Type 0 where
+  pub listed : p .index < n
+  pub same : p .standard ≡ at (p .index)
+  pub own : p .standard .recipe ≡ recipe
+  pub begun : p .standard .start ≤ time
+  pub latest : (i : ℕ) → i < n → at i .recipe ≡ recipe → at i .start ≤ time → at i .start ≤ p .standard .start
 
 -- a standard in force, or none, where none is
-abbrev pub Answers : (ℕ → Standard) → ℕ → ℕ → ℕ → Option Standard → Type 0
+abbrev pub Answers : (ℕ → Standard) → ℕ → ℕ → ℕ → Option Placed → Type 0
 Answers at n recipe time none = (i : ℕ) → i < n → at i .recipe ≡ recipe → at i .start ≤ time → ⊥
-Answers at n recipe time (some s) = Force at n recipe time s
+Answers at n recipe time (some p) = Force at n recipe time p
 
 -- the last of a list that passes a test, or none
 unfoldable pub lastWhere : {A : Type 0} → (A → Bool) → List A → Option A
 lastWhere test xs = foldl (λ found x. cond (test x) (some x) found) none xs
 
 -- document 02's walk from the end: the last standard of the recipe with a start at or before the time, or none
-abbrev pub lastInForce : List Standard → ℕ → ℕ → Option Standard
-lastInForce ss recipe time = lastWhere (hasBegun recipe time) ss
+abbrev pub lastInForce : List Standard → ℕ → ℕ → Option Placed
+lastInForce ss recipe time = lastWhere (λ p. hasBegun recipe time (p .standard)) (placedFrom 0 ss)
 
-abbrev pub timeOf : Option Standard → ℕ
+abbrev pub timeOf : Option Placed → ℕ
 timeOf none = 0
-timeOf (some s) = s .theoretical
+timeOf (some p) = p .standard .theoretical
 
 -- units times the theoretical time in force at the record's time, where the record is module m's
 unfoldable pub credit : (UnitRecord → ℕ) → List Standard → ℕ → UnitRecord → ℕ
@@ -63,3 +74,20 @@ unfoldable pub theoreticalTime : (UnitRecord → ℕ) → List Standard → List
 unfolding credit
 theoreticalTime units ss [] m = 0
 theoreticalTime units ss (u ∷ us) m = credit units ss m u + theoreticalTime units ss us m
+
+-- ---- which standard judges a unit record
+
+abbrev pub isAt : ℕ → Option Placed → Bool
+isAt i none = false
+isAt i (some p) = eqb (p .index) i
+
+-- a unit record is judged by standard i where that is the one in force for its recipe at its time
+unfoldable pub judgedBy : List Standard → UnitRecord → ℕ → Bool
+unfolding inForce
+judgedBy ss u i = isAt i (inForce ss (u .recipe) (u .time))
+
+-- the units that standard i judges, summed over the unit records of all modules
+unfoldable pub unitsJudged : (UnitRecord → ℕ) → List Standard → List UnitRecord → ℕ → ℕ
+unfolding judgedBy
+unitsJudged units ss [] i = 0
+unitsJudged units ss (u ∷ us) i = cond (judgedBy ss u i) (units u) 0 + unitsJudged units ss us i

@@ -1,6 +1,13 @@
 // What a log is answered with: acceptance, or a refusal with its number, its list and its place. The rules of a log are definitions, in specs/.
+use records::Standard;
 
-// list: 0 none, 1 states, 2 standards, 3 units. place: the record's index from 0, or a module.
+// A standard with its index in the list.
+pub struct Placed {
+    pub index: usize,
+    pub standard: Standard,
+}
+
+// list: 0 none, 1 states, 2 standards, 3 units, 4 benchmarks. place: the record's index from 0, or a module.
 pub struct Refusal {
     pub number: usize,
     pub list: usize,

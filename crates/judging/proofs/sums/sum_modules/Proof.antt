@@ -5,7 +5,7 @@ use Prim.Native.Nat.{ℕ, _+_, _*_, _-_, _≤_}
 use native.Mathlib.Omega.{arith}
 use lib.ListN.{getD}
 use Rattle.rules.specs.Quantities.{sumBelow}
-use Rattle.judging.proofs.SumLaws.{sum-none, sum-more, sum-low}
+use Rattle.rules.proofs.SumLaws.{sum-none, sum-more, sum-low}
 use Rattle.judging.proofs.sums.sum_modules.Statement.{statement}
 use Rattle.judging.proofs.sums.sum_modules.Tie as tie
 

@@ -1,11 +1,11 @@
--- The laws of a sum over modules.
+-- The laws of a sum over modules, or over standards.
 -- Assumes nothing.
 use mathlib.Core.Path.{_≡_, refl}
 use Prim.Native.Nat.{ℕ, zero, suc, _+_, _*_, _≤_, _<_}
 use native.Mathlib.Nat.{mul-suc, mul-zero}
 use native.Mathlib.Numerals.{add-one}
 use native.Mathlib.Omega.{arith}
 use Rattle.rules.specs.Quantities.{sumBelow}
 
 pub sum-none : (f : ℕ → ℕ) → sumBelow f 0 ≡ 0
 unfolding sumBelow
