@@ -16,16 +16,20 @@ use Rattle.rules.specs.Sequence.{isRisingAfter, isRising, standardKey}
 use Rattle.rules.specs.Theoretical.{placed, placedFrom, later, hasBegun, consider, inForce, Answers, lastWhere, lastInForce}
 use Rattle.rules.specs.Verdict.{verdict}
 use Rattle.rules.proofs.Booleans.{both}
-use Rattle.rules.proofs.InForce.{in-force}
+use Rattle.rules.proofs.InForce.{placed-up-to, in-force}
 use Rattle.rules.proofs.Risen.{risen}
 use Rattle.rules.proofs.Sequence.{AllAbove, rising-above, rising-tail, start-above}
 
 -- ---- on every list
 
 -- one more element: it is the last that passes, or the last is where it was
-pub last-where-more : {A : Type 0} (test : A → Bool) (at : ℕ → A) (n : ℕ) → lastWhere test (upTo at (suc n)) ≡ cond (test (at n)) (some (at n)) (lastWhere test (upTo at n))
+last-where-more : {A : Type 0} (test : A → Bool) (at : ℕ → A) (n : ℕ) → lastWhere test (upTo at (suc n)) ≡ cond (test (at n)) (some (at n)) (lastWhere test (upTo at n))
 unfolding lastWhere upTo
 last-where-more test at n = foldl-append (λ found x. cond (test x) (some x) found) none (upTo at n) (at n ∷ [])
+
+-- one more standard
+pub last-more : (recipe time : ℕ) (at : ℕ → Standard) (n : ℕ) → lastInForce (upTo at (suc n)) recipe time ≡ cond (hasBegun recipe time (at n)) (some (placed n (at n))) (lastInForce (upTo at n) recipe time)
+last-more recipe time at n = rw (placed-up-to at (suc n), placed-up-to at n) (last-where-more (λ p. hasBegun recipe time (p .standard)) (λ i. placed i (at i)) n)
 
 -- ---- on a list that rises
 

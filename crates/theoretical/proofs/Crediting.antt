@@ -15,6 +15,7 @@ use Rattle.records.specs.declared.Standard.{Standard}
 use Rattle.records.specs.declared.UnitRecord.{UnitRecord}
 use Rattle.records.specs.Log.{upTo}
 use Rattle.records.proofs.UpTo.{up-to-more}
+use Rattle.rules.specs.declared.Placed.{Placed}
 use Rattle.rules.specs.declared.Refusal.{Refusal}
 use Rattle.rules.specs.declared.Verdict.{Verdict}
 use Rattle.rules.specs.declared.Verdict.the-variants.{Accepted, Refused}
@@ -39,30 +40,30 @@ module _ (f : UnitRecord → ℕ) (ss : List Standard) where
   total-more [] u m = omega arith
   total-more (v ∷ us) u m = rw (total-more us u m) (sym (add-assoc (credit f ss m v) (theoreticalTime f ss us m) (credit f ss m u)))
 
-  credit-own : (u : UnitRecord) (s : Standard) (m : ℕ) → u .«module» ≡ m → inForce ss (u .recipe) (u .time) ≡ some s → credit f ss m u ≡ f u * s .theoretical
+  credit-own : (u : UnitRecord) (p : Placed) (m : ℕ) → u .«module» ≡ m → inForce ss (u .recipe) (u .time) ≡ some p → credit f ss m u ≡ f u * p .standard .theoretical
   unfolding credit
-  credit-own u s m e i = rw (eq-eqb (u .«module») m e, i)
+  credit-own u p m e i = rw (eq-eqb (u .«module») m e, i)
 
   credit-other : (u : UnitRecord) (m : ℕ) → (u .«module» ≡ m → ⊥) → credit f ss m u ≡ 0
   unfolding credit
   credit-other u m ne = rw (ne-eqb (u .«module») m ne)
 
-  module _ (us : List UnitRecord) (u : UnitRecord) (s : Standard) (A : List ℕ) (len : length A ≡ 64) (low : u .«module» < 64) (found : inForce ss (u .recipe) (u .time) ≡ some s) where
+  module _ (us : List UnitRecord) (u : UnitRecord) (p : Placed) (A : List ℕ) (len : length A ≡ 64) (low : u .«module» < 64) (found : inForce ss (u .recipe) (u .time) ≡ some p) where
     pub sum-more : ((m : ℕ) → m < 64 → getD A m 0 ≡ theoreticalTime f ss us m)
-        → (m : ℕ) → m < 64 → getD (set A (u .«module») (getD A (u .«module») 0 + f u * s .theoretical)) m 0 ≡ theoreticalTime f ss (us ++ (u ∷ [])) m
+        → (m : ℕ) → m < 64 → getD (set A (u .«module») (getD A (u .«module») 0 + f u * p .standard .theoretical)) m 0 ≡ theoreticalTime f ss (us ++ (u ∷ [])) m
     sum-more h m l =
         rw (total-more us u m)
         (elim (ℕ-discrete (u .«module») m) [
-          | yes q ↦ rw (credit-own u s m q found, ← q) (getD-set-same A (u .«module») _ 0 (omega arith) ∙ ap (λ (x : ℕ). x + f u * s .theoretical) (h (u .«module») low))
+          | yes q ↦ rw (credit-own u p m q found, ← q) (getD-set-same A (u .«module») _ 0 (omega arith) ∙ ap (λ (x : ℕ). x + f u * p .standard .theoretical) (h (u .«module») low))
           | no q ↦ rw (credit-other u m q) (getD-set-other A (u .«module») m _ 0 (λ e. q (sym e)) ∙ h m l ∙ omega arith)
         ])
 
-    pub low-more : (i : ℕ) → f u < 65536 → s .theoretical < 134217728 → ((m : ℕ) → m < 64 → getD A m 0 ≤ i * 2 ^ 43)
-        → (m : ℕ) → m < 64 → getD (set A (u .«module») (getD A (u .«module») 0 + f u * s .theoretical)) m 0 ≤ (i + 1) * 2 ^ 43
+    pub low-more : (i : ℕ) → f u < 65536 → p .standard .theoretical < 134217728 → ((m : ℕ) → m < 64 → getD A m 0 ≤ i * 2 ^ 43)
+        → (m : ℕ) → m < 64 → getD (set A (u .«module») (getD A (u .«module») 0 + f u * p .standard .theoretical)) m 0 ≤ (i + 1) * 2 ^ 43
     low-more i few short h m l =
         elim (ℕ-discrete (u .«module») m) [
-          | yes q ↦ rw (← q, getD-set-same A (u .«module») (getD A (u .«module») 0 + f u * s .theoretical) 0 (omega arith)) (omega (arith, h (u .«module») low, credit-low (f u) (s .theoretical) few short))
-          | no q ↦ rw (getD-set-other A (u .«module») m (getD A (u .«module») 0 + f u * s .theoretical) 0 (λ e. q (sym e))) (omega (arith, h m l))
+          | yes q ↦ rw (← q, getD-set-same A (u .«module») (getD A (u .«module») 0 + f u * p .standard .theoretical) 0 (omega arith)) (omega (arith, h (u .«module») low, credit-low (f u) (p .standard .theoretical) few short))
+          | no q ↦ rw (getD-set-other A (u .«module») m (getD A (u .«module») 0 + f u * p .standard .theoretical) 0 (λ e. q (sym e))) (omega (arith, h m l))
         ]
 
 -- ---- one unit record tested
@@ -95,13 +96,13 @@ module _ (period modules : ℕ) (ss : List Standard) (at : ℕ → UnitRecord) (
   pub unit-none : v ≡ Accepted → inForce ss (u .recipe) (u .time) ≡ none → (w : Verdict) → w ≡ Refused (record { number = 15; list = 3; place = i }) → (before : ℕ) (A E : List ℕ) → OneUnit period modules ss at i w before A E
   unit-none e h w ew = unit-refused _ w ew e (rw h)
 
-  module _ (e : v ≡ Accepted) (s : Standard) (h : inForce ss (u .recipe) (u .time) ≡ some s) (before : ℕ) (q : UnitsSequenced (upTo at i) before) (fits : UnitFits u) where
+  module _ (e : v ≡ Accepted) (p : Placed) (h : inForce ss (u .recipe) (u .time) ≡ some p) (before : ℕ) (q : UnitsSequenced (upTo at i) before) (fits : UnitFits u) where
     pub unit-unsorted : unitNumber u ≤ before → (w : Verdict) → w ≡ Refused (record { number = 19; list = 3; place = i }) → (before′ : ℕ) (A E : List ℕ) → OneUnit period modules ss at i w before′ A E
     unit-unsorted l w ew = unit-refused _ w ew e (rw (h, q .next u fits, le-ltb before (unitNumber u) l))
 
-    pub unit-credited : before < unitNumber u → u .actual < 65536 → u .effective < 65536 → s .theoretical < 134217728
+    pub unit-credited : before < unitNumber u → u .actual < 65536 → u .effective < 65536 → p .standard .theoretical < 134217728
         → (A E : List ℕ) → SumsSoFar ss (upTo at i) i A E
-        → (before′ : ℕ) (A′ E′ : List ℕ) → before′ ≡ unitNumber u → A′ ≡ set A (u .«module») (getD A (u .«module») 0 + u .actual * s .theoretical) → E′ ≡ set E (u .«module») (getD E (u .«module») 0 + u .effective * s .theoretical)
+        → (before′ : ℕ) (A′ E′ : List ℕ) → before′ ≡ unitNumber u → A′ ≡ set A (u .«module») (getD A (u .«module») 0 + u .actual * p .standard .theoretical) → E′ ≡ set E (u .«module») (getD E (u .«module») 0 + u .effective * p .standard .theoretical)
         → OneUnit period modules ss at i Accepted before′ A′ E′
     unit-credited l few few′ short A E sums before′ A′ E′ el ea ee =
         let after = q .next u fits ∙ lt-ltb before (unitNumber u) l in
@@ -111,18 +112,18 @@ module _ (period modules : ℕ) (ss : List Standard) (at : ℕ → UnitRecord) (
           summed = λ f. rw (ea, ee, up-to-more at i, ← eu) more;
         }
       where
-        more : SumsSoFar ss (upTo at i ++ (u ∷ [])) (i + 1) (set A (u .«module») (getD A (u .«module») 0 + u .actual * s .theoretical)) (set E (u .«module») (getD E (u .«module») 0 + u .effective * s .theoretical))
+        more : SumsSoFar ss (upTo at i ++ (u ∷ [])) (i + 1) (set A (u .«module») (getD A (u .«module») 0 + u .actual * p .standard .theoretical)) (set E (u .«module») (getD E (u .«module») 0 + u .effective * p .standard .theoretical))
         more =
             record {
               sized = (length-set A _ _ ∙ sums .sized .0, length-set E _ _ ∙ sums .sized .1);
               low = λ m l. (
-                low-more (λ u. u .actual) ss (upTo at i) u s A (sums .sized .0) (fits .0) h i few short (λ k q. sums .low k q .0) m l,
-                low-more (λ u. u .effective) ss (upTo at i) u s E (sums .sized .1) (fits .0) h i few′ short (λ k q. sums .low k q .1) m l,
+                low-more (λ u. u .actual) ss (upTo at i) u p A (sums .sized .0) (fits .0) h i few short (λ k q. sums .low k q .0) m l,
+                low-more (λ u. u .effective) ss (upTo at i) u p E (sums .sized .1) (fits .0) h i few′ short (λ k q. sums .low k q .1) m l,
               );
               credited =
                   record {
-                    actual = sum-more (λ u. u .actual) ss (upTo at i) u s A (sums .sized .0) (fits .0) h (sums .credited .actual);
-                    effective = sum-more (λ u. u .effective) ss (upTo at i) u s E (sums .sized .1) (fits .0) h (sums .credited .effective);
+                    actual = sum-more (λ u. u .actual) ss (upTo at i) u p A (sums .sized .0) (fits .0) h (sums .credited .actual);
+                    effective = sum-more (λ u. u .effective) ss (upTo at i) u p E (sums .sized .1) (fits .0) h (sums .credited .effective);
                   };
             }
 

@@ -9,9 +9,9 @@ use native.Mathlib.Omega.{arith}
 use borrow.Author.Tests.{eq-eqb, ne-eqb}
 use Rattle.records.specs.declared.Standard.{Standard}
 use Rattle.records.specs.Log.{upTo}
-use Rattle.rules.specs.Theoretical.{hasBegun, lastWhere, lastInForce}
+use Rattle.rules.specs.Theoretical.{placed, placedFrom, hasBegun, lastWhere, lastInForce}
 use Rattle.rules.proofs.InForce.{other-recipe, not-begun, begun}
-use Rattle.rules.proofs.LastInForce.{last-where-more}
+use Rattle.rules.proofs.LastInForce.{last-more}
 use Rattle.theoretical.specs.declared.Lookup.the-variants.{Found, Nothing}
 use Rattle.theoretical.specs.Listing.{lastOf, lookupOf}
 
@@ -57,16 +57,16 @@ module _ (at : ℕ → Standard) (recipe : ℕ) where
 
     -- one that has not begun is passed over
     pub passed : (n i : ℕ) → Searching n (suc i) → hasBegun recipe time (at i) ≡ false → Searching n i
-    passed n i s e = record { within = omega (arith, s .within); same = s .same ∙ last-where-more (hasBegun recipe time) at i ∙ rw e }
+    passed n i s e = record { within = omega (arith, s .within); same = s .same ∙ last-more recipe time at i ∙ rw e }
 
     -- the first that has is the one
-    pub found : (n i : ℕ) → Searching n (suc i) → hasBegun recipe time (at i) ≡ true → Found (at i) ≡ lookupOf (lastInForce (upTo at n) recipe time)
+    pub found : (n i : ℕ) → Searching n (suc i) → hasBegun recipe time (at i) ≡ true → Found (placed i (at i)) ≡ lookupOf (lastInForce (upTo at n) recipe time)
     found n i s e =
-        let answer : lastInForce (upTo at n) recipe time ≡ some (at i) = s .same ∙ last-where-more (hasBegun recipe time) at i ∙ rw e in
+        let answer : lastInForce (upTo at n) recipe time ≡ some (placed i (at i)) = s .same ∙ last-more recipe time at i ∙ rw e in
         sym (ap lookupOf answer)
 
     pub at-the-front : (n left : ℕ) → left ≡ 0 → Searching n left → Nothing ≡ lookupOf (lastInForce (upTo at n) recipe time)
-    unfolding upTo lastWhere
+    unfolding upTo lastWhere placedFrom
     at-the-front n left e s = sym (ap lookupOf (s .same ∙ ap (λ (k : ℕ). lastInForce (upTo at k) recipe time) e))
 
     -- ---- from the recipe's last
@@ -85,7 +85,7 @@ module _ (at : ℕ → Standard) (recipe : ℕ) where
     from-the-last n from e = record { within = rw e (last-le n); same = rw e (skipped n) }
 
     module _ (n from i : ℕ) (e : from ≡ lastOf at recipe n) (one : from ≡ suc i) where
-      pub last-found : at i .start ≤ time → Found (at i) ≡ lookupOf (lastInForce (upTo at n) recipe time)
+      pub last-found : at i .start ≤ time → Found (placed i (at i)) ≡ lookupOf (lastInForce (upTo at n) recipe time)
       last-found h = found n i (rw one at (from-the-last n from e)) (begun recipe time (at i) (last-is n i (sym e ∙ one)) h)
 
       pub last-passed : time < at i .start → Searching n i

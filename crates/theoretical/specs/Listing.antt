@@ -9,6 +9,7 @@ use lib.Dec.{eqb}
 use lib.ListN.{length, getD}
 use Rattle.records.specs.declared.Standard.{Standard}
 use Rattle.records.specs.Log.{upTo}
+use Rattle.rules.specs.declared.Placed.{Placed}
 use Rattle.rules.specs.declared.Verdict.{Verdict}
 use Rattle.rules.specs.declared.Verdict.the-variants.{Accepted}
 use Rattle.rules.specs.Keys.{StandardsSequenced}
@@ -49,6 +50,6 @@ pub record AllListed (period : ℕ) (at : ℕ → Standard) (n : ℕ) (r : Verdi
   pub listing : r ≡ Accepted → Listing at n E R L
 
 -- a standard, or none, as the lookup answers it
-abbrev pub lookupOf : Option Standard → Lookup
+abbrev pub lookupOf : Option Placed → Lookup
 lookupOf none = Nothing
-lookupOf (some s) = Found s
+lookupOf (some p) = Found p

@@ -6,7 +6,7 @@ ghost use lib.Dec.{leb};
 ghost use lib.ListN.{getD, set, replicate};
 ghost use Rattle.records.specs.Log.{upTo, standardAt, unitAt};
 ghost use Rattle.records.specs.Covers.{Covers};
-ghost use Rattle.rules.specs.Theoretical.{hasBegun, lastInForce};
+ghost use Rattle.rules.specs.Theoretical.{placed, hasBegun, lastInForce};
 ghost use Rattle.rules.specs.Sequence.{isRising, standardKey};
 ghost use Rattle.rules.specs.Keys.{standardNumber, StandardFits, StandardsSequenced, unitNumber, UnitFits, UnitsSequenced};
 ghost use Rattle.rules.specs.RecordGrounds.{isAmong, standardGround};
@@ -15,12 +15,13 @@ ghost use Rattle.theoretical.specs.Credits.{ownGrounds, SumsSoFar, OneUn
 use records::Header;
 use records::Standard;
 use records::UnitRecord;
+use rules::Placed;
 use rules::Refusal;
 use rules::Verdict;
 
-// What looking up a standard answers: a standard, or none.
-enum Lookup {
-    Found(Standard),
+// What looking up a standard answers: a standard with its index, or none.
+pub enum Lookup {
+    Found(Placed),
     Nothing,
 }
 
@@ -73,24 +74,28 @@ fn has_begun(
     }
 }
 
-// Standard i.
-fn standard_at(
+// Standard i, with its index.
+fn placed_at(
     log: &[u8],
     h: Header,
     n: usize,
     entries: &[u64; 512],
     recipes: &[u16; 512],
     i: usize,
-) -> Standard
+) -> Placed
     requires { ⌜ Held (standardAt (now log) h) n (now entries) (now recipes) ⌝ }
     requires { ⌜ i < n ⌝ }
-    ensures { λ r. ⌜ r ≡ standardAt (now (log .entry)) h i ⌝ }
+    ensures { λ r. ⌜ r ≡ placed i (standardAt (now (log .entry)) h i) ⌝ }
 {
     let entry = entries[i];
-    Standard {
+    let standard = Standard {
         recipe: recipes[i] as usize,
         start: entry / 0x800_0000,
         theoretical: entry % 0x800_0000,
+    };
+    Placed {
+        index: i,
+        standard,
     }
 }
 
@@ -114,7 +119,7 @@ fn walk_back(
     while left != 0 {
         let i = left - 1;
         if has_begun(log, h, n, entries, recipes, i, recipe, time) {
-            return Lookup::Found(standard_at(log, h, n, entries, recipes, i));
+            return Lookup::Found(placed_at(log, h, n, entries, recipes, i));
         }
         left = i;
     }
@@ -123,7 +128,7 @@ fn walk_back(
 
 // The last standard of the list, rising or not, that is the recipe's and starts at or before the time, or none. `last` leads to the recipe's last, past those of
 // other recipes behind it: nearly always that one has begun, and else the walk goes on from there.
-fn look_up(
+pub fn look_up(
     log: &[u8],
     h: Header,
     n: usize,
@@ -143,7 +148,7 @@ fn look_up(
     }
     let newest = from - 1;
     if starts_by(log, h, n, entries, recipes, newest, time) {
-        return Lookup::Found(standard_at(log, h, n, entries, recipes, newest));
+        return Lookup::Found(placed_at(log, h, n, entries, recipes, newest));
     }
     walk_back(log, h, n, entries, recipes, newest, recipe, time)
 }
@@ -240,7 +245,7 @@ fn list_standard(
 }
 
 // All standards, one by one, up to the first that is refused.
-fn list_standards(
+pub fn list_standards(
     log: &[u8],
     h: Header,
     entries: &mut [u64; 512],
@@ -324,7 +329,7 @@ fn credit_unit(
         return own;
     }
     let n = h.standards;
-    let Lookup::Found(s) = look_up(log, h, n, entries, recipes, last, u.recipe, u.time) else {
+    let Lookup::Found(p) = look_up(log, h, n, entries, recipes, last, u.recipe, u.time) else {
         return refused(15, 3, i);
     };
     let number = unit_number(u);
@@ -333,8 +338,8 @@ fn credit_unit(
     }
     *before = number;
     let m = u.module;
-    credit(actual, m, u.actual, s.theoretical);
-    credit(effective, m, u.effective, s.theoretical);
+    credit(actual, m, u.actual, p.standard.theoretical);
+    credit(effective, m, u.effective, p.standard.theoretical);
     Verdict::Accepted
 }
 

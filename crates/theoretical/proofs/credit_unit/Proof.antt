@@ -7,11 +7,11 @@ use mathlib.Core.List.{List}
 use Prim.Native.Nat.{ℕ, _+_, _*_, _^_, _<_}
 use native.Mathlib.Omega.{arith}
 use Rattle.records.specs.declared.Header.{Header}
-use Rattle.records.specs.declared.Standard.{Standard}
 use Rattle.records.specs.declared.UnitRecord.{UnitRecord}
 use Rattle.records.specs.Log.{upTo, standardAt, unitAt}
 use Rattle.records.specs.Fields.{unitFrom}
 use Rattle.records.proofs.Widths.{standard-fits, unit-fits}
+use Rattle.rules.specs.declared.Placed.{Placed}
 use Rattle.rules.specs.Keys.{UnitFits}
 use Rattle.rules.specs.Theoretical.{inForce, Answers}
 use Rattle.rules.proofs.InForce.{in-force}
@@ -23,11 +23,11 @@ use Rattle.theoretical.proofs.credit_unit.Statement.{statement}
 use Rattle.theoretical.proofs.credit_unit.Tie as tie
 
 -- what the lookup answered is what is in force
-found-is : (o : Option Standard) (s : Standard) → Found s ≡ lookupOf o → o ≡ some s
-found-is none s e = let z : _≡_ {A = ℕ} 0 1 = cc in absurd (omega arith)
-found-is (some t) s e = let q : t ≡ s = cc in ap {B = Option Standard} some q
+found-is : (o : Option Placed) (p : Placed) → Found p ≡ lookupOf o → o ≡ some p
+found-is none p e = let z : _≡_ {A = ℕ} 0 1 = cc in absurd (omega arith)
+found-is (some t) p e = let q : t ≡ p = cc in ap {B = Option Placed} some q
 
-none-is : (o : Option Standard) → Nothing ≡ lookupOf o → o ≡ none
+none-is : (o : Option Placed) → Nothing ≡ lookupOf o → o ≡ none
 none-is none e = refl
 none-is (some t) e = let z : _≡_ {A = ℕ} 0 1 = cc in absurd (omega arith)
 
@@ -39,14 +39,14 @@ module _ (s : List ℕ) (h : Header) (i : ℕ) (u : UnitRecord) (e : u ≡ unitA
       rw e (f .0, f .1 .0, f .1 .1 .0, f .1 .1 .1 .0, f .1 .1 .1 .1 .0)
 
 -- a standard in force is one of the log's
-short : (s : List ℕ) (h : Header) (n recipe time : ℕ) (x : Standard) → inForce (upTo (standardAt s h) n) recipe time ≡ some x → x .theoretical < 134217728
+short : (s : List ℕ) (h : Header) (n recipe time : ℕ) (x : Placed) → inForce (upTo (standardAt s h) n) recipe time ≡ some x → x .standard .theoretical < 134217728
 short s h n recipe time x e = go (inForce (upTo (standardAt s h) n) recipe time) e (in-force (standardAt s h) recipe time n)
   where
-    go : (o : Option Standard) → o ≡ some x → Answers (standardAt s h) n recipe time o → x .theoretical < 134217728
+    go : (o : Option Placed) → o ≡ some x → Answers (standardAt s h) n recipe time o → x .standard .theoretical < 134217728
     go none e a = let z : _≡_ {A = ℕ} 0 1 = cc in absurd (omega arith)
     go (some y) e f =
-        let q : x ≡ standardAt s h (f .index) = (cc) ∙ f .same in
-        rw q (standard-fits s (80 + 48 * h .states + 72 * f .index) .1 .1 .0)
+        let q : x .standard ≡ standardAt s h (y .index) = (cc) ∙ f .same in
+        rw q (standard-fits s (80 + 48 * h .states + 72 * y .index) .1 .1 .0)
 
 -- where unit record i begins
 reads : (c : tie.After-unit-from) → let a = c .before .before .args in c .unit-from .result ≡ unitAt (a .log .now) (a .h) (a .i)
@@ -85,21 +85,21 @@ returns-2 c =
     (c .before .before .before .before .enum-told2 .given .1) (none-is _ (sym (c .before .enum-told3 .given .1) ∙ looked-up (c .before .before .before))) (c .refused .result) (c .refused .ensures) (a .before .now) (a .actual .now) (a .effective .now)
 
 -- where the lookup found a standard
-in-force-there : (c : tie.After-s)
-    → let a = c .before .before .before .before .before .before .before .before .args in let u = c .before .before .before .before .before .before .unit-from .result in inForce (upTo (standardAt (a .log .now) (a .h)) (a .h .standards)) (u .recipe) (u .time) ≡ some (c .s .given .0 .0)
-in-force-there c = found-is _ _ (sym (c .s .given .1) ∙ looked-up (c .before .before))
+in-force-there : (c : tie.After-p)
+    → let a = c .before .before .before .before .before .before .before .before .args in let u = c .before .before .before .before .before .before .unit-from .result in inForce (upTo (standardAt (a .log .now) (a .h)) (a .h .standards)) (u .recipe) (u .time) ≡ some (c .p .given .0 .0)
+in-force-there c = found-is _ _ (sym (c .p .given .1) ∙ looked-up (c .before .before))
 
-short-there : (c : tie.After-s) → c .s .given .0 .0 .theoretical < 134217728
+short-there : (c : tie.After-p) → c .p .given .0 .0 .standard .theoretical < 134217728
 short-there c =
     let a = c .before .before .before .before .before .before .before .before .args in
     let u = c .before .before .before .before .before .before .unit-from .result in
-    short (a .log .now) (a .h) (a .h .standards) (u .recipe) (u .time) (c .s .given .0 .0) (in-force-there c)
+    short (a .log .now) (a .h) (a .h .standards) (u .recipe) (u .time) (c .p .given .0 .0) (in-force-there c)
 
-wide : (c : tie.After-s)
+wide : (c : tie.After-p)
     → let u = c .before .before .before .before .before .before .unit-from .result in (u .«module» < 64) × (u .recipe < 1024) × (u .time < 2 ^ 35) × (u .actual < 65536) × (u .effective < 65536)
 wide c = let a = c .before .before .before .before .before .before .before .before .args in let u = c .before .before .before .before .before .before in widths (a .log .now) (a .h) (a .i) (u .unit-from .result) (reads u)
 
-fits : (c : tie.After-s) → UnitFits (c .before .before .before .before .before .before .unit-from .result)
+fits : (c : tie.After-p) → UnitFits (c .before .before .before .before .before .before .unit-from .result)
 fits c = let w = wide c in (w .0, w .1, w .2)
 
 returns-3 : tie.Need-returns-3
@@ -110,7 +110,7 @@ returns-3 c =
     let u = f .before .before .before .before .before .before in
     let t = f .before .before .before .before .before .test-unit in
     unit-unsorted (a .h .period) (a .h .modules) (upTo (standardAt (a .log .now) (a .h)) (a .h .standards)) (unitAt (a .log .now) (a .h)) (a .i) (u .unit-from .result) (reads u) (t .result) (t .ensures)
-    (f .before .before .before .enum-told2 .given .1) (f .s .given .0 .0) (in-force-there f) (a .before .now) (s .pre .1 .1 .0) (fits f) (omega (arith, c .before .if1 .taken, c .before .before .before .unit-number .ensures))
+    (f .before .before .before .enum-told2 .given .1) (f .p .given .0 .0) (in-force-there f) (a .before .now) (s .pre .1 .1 .0) (fits f) (omega (arith, c .before .if1 .taken, c .before .before .before .unit-number .ensures))
     (c .refused2 .result) (c .refused2 .ensures) (a .before .now) (a .actual .now) (a .effective .now)
 
 credit-requires : tie.Need-credit-requires
@@ -137,7 +137,7 @@ returns-4 c =
     let n = c .before .before .before .before .before .before .unit-number in
     let w = wide f in
     unit-credited (a .h .period) (a .h .modules) (upTo (standardAt (a .log .now) (a .h)) (a .h .standards)) (unitAt (a .log .now) (a .h)) (a .i) (u .unit-from .result) (reads u) (t .result) (t .ensures)
-    (f .before .before .before .enum-told2 .given .1) (f .s .given .0 .0) (in-force-there f) (a .before .now) (s .pre .1 .1 .0) (fits f) (omega (arith, c .before .before .before .before .if1 .left, n .ensures))
+    (f .before .before .before .enum-told2 .given .1) (f .p .given .0 .0) (in-force-there f) (a .before .now) (s .pre .1 .1 .0) (fits f) (omega (arith, c .before .before .before .before .if1 .left, n .ensures))
     (w .3) (w .4) (short-there f) (a .actual .now) (a .effective .now) (s .pre .1 .1 .1 .0)
     (n .result) (c .before .before .credit .last .0) (c .credit2 .last .0) (n .ensures) (c .before .before .credit .ensures) (c .credit2 .ensures)
 

@@ -39,14 +39,14 @@ listed c = let s = c .before .before .before in (omega (arith, c .if1 .left), om
 starts-by-requires : tie.Need-starts-by-requires
 starts-by-requires c κs = let s = c .before .before .before in (s .pre .0 .held, (listed c .1, omega (arith, s .pre .1 .1)))
 
-standard-at-requires : tie.Need-standard-at-requires
-standard-at-requires c κs = let e = c .before .before in (e .before .before .before .pre .0 .held, listed e .1)
+placed-at-requires : tie.Need-placed-at-requires
+placed-at-requires c κs = let e = c .before .before in (e .before .before .before .pre .0 .held, listed e .1)
 
 returns-2 : tie.Need-returns-2
 returns-2 c =
     let t = c .before .before in
     let s = t .before .before .before .before in
-    rw (c .standard-at .ensures)
+    rw (c .placed-at .ensures)
     (last-found (at s) (s .args .recipe) (s .args .time) (s .args .n) (from s) (from s - 1) (leads s) (listed (t .before) .0) (leb-true _ _ (sym (t .starts-by .ensures) ∙ c .before .if2 .taken)))
 
 walk-back-requires : tie.Need-walk-back-requires
@@ -69,7 +69,7 @@ look-up-spec =
     returns
     (λ c. search needs)
     starts-by-requires
-    standard-at-requires
+    placed-at-requires
     returns-2
     walk-back-requires
     returns-3)

@@ -20,8 +20,8 @@ loop-holds c = let a = c .before .args in from-the-end (standardAt (a .log .now)
 has-begun-requires : tie.Need-has-begun-requires Inv-loop μ-loop
 has-begun-requires c κs = let s = c .before .before .before in (s .pre .0, (omega (arith, c .loop-test .taken, c .before .loop .inv .within, s .pre .1 .0), s .pre .1 .1))
 
-standard-at-requires : tie.Need-standard-at-requires Inv-loop μ-loop
-standard-at-requires c κs = let h = has-begun-requires (c .before .before) κs in (h .0, h .1 .0)
+placed-at-requires : tie.Need-placed-at-requires Inv-loop μ-loop
+placed-at-requires c κs = let h = has-begun-requires (c .before .before) κs in (h .0, h .1 .0)
 
 -- the answer is still among those up to the one in turn
 in-turn : (c : tie.In-loop Inv-loop μ-loop)
@@ -35,7 +35,7 @@ returns c =
     let t = c .before .before in
     let l = t .before .before in
     let a = l .before .before .args in
-    rw (c .standard-at .ensures) (found (standardAt (a .log .now) (a .h)) (a .recipe) (a .time) (a .from) (l .loop .left - 1) (in-turn (t .before)) (sym (t .has-begun .ensures) ∙ c .before .if1 .taken))
+    rw (c .placed-at .ensures) (found (standardAt (a .log .now) (a .h)) (a .recipe) (a .time) (a .from) (l .loop .left - 1) (in-turn (t .before)) (sym (t .has-begun .ensures) ∙ c .before .if1 .taken))
 
 loop-again : tie.Need-loop-again Inv-loop μ-loop
 loop-again c =
@@ -59,7 +59,7 @@ walk-back-spec =
     loop-holds
     (λ c. omega (arith, c .loop-test .taken))
     has-begun-requires
-    standard-at-requires
+    placed-at-requires
     returns
     (λ c. omega (arith, c .before .before .loop-test .taken))
     loop-again
