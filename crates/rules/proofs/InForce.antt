@@ -17,7 +17,7 @@ use Rattle.records.proofs.UpTo.{length-up-to}
 use Rattle.rules.specs.declared.Placed.{Placed}
 use Rattle.rules.proofs.Booleans.{both-true, right-false}
 use Rattle.rules.proofs.FirstGround.{below-suc}
-use Rattle.rules.specs.Theoretical.{placed, placedFrom, later, hasBegun, consider, inForce, Answers}
+use Rattle.rules.specs.Theoretical.{placed, placedFrom, later, hasBegun, consider, inForce, Force, Answers}
 
 -- ---- one more standard
 
@@ -99,3 +99,6 @@ module _ (at : ℕ → Standard) (recipe time : ℕ) where
       step o a (no ne) d = rw (other-recipe recipe time (at n) ne) (keeps n o a (λ e l. ne e))
       step o a (yes e) (yes l) = rw (not-begun recipe time (at n) l) (keeps n o a (λ e′ l′. omega arith))
       step o a (yes e) (no l) = rw (begun recipe time (at n) e (omega arith)) (takes n o a e (omega arith))
+
+  pub the-one : (n : ℕ) (p : Placed) → inForce (upTo at n) recipe time ≡ some p → Force at n recipe time p
+  the-one n p e = rw e at (in-force n)

@@ -11,10 +11,12 @@ use native.Mathlib.Omega.{arith}
 use lib.ListN.{length, getD, set, replicate, length-set, length-replicate, getD-replicate}
 use lib.Seq.{getD-set-same, getD-set-other}
 use borrow.Author.Tests.{eq-eqb, ne-eqb, le-ltb, lt-ltb}
+use Rattle.records.specs.declared.Header.{Header}
 use Rattle.records.specs.declared.Standard.{Standard}
 use Rattle.records.specs.declared.UnitRecord.{UnitRecord}
-use Rattle.records.specs.Log.{upTo}
+use Rattle.records.specs.Log.{upTo, unitAt}
 use Rattle.records.proofs.UpTo.{up-to-more}
+use Rattle.records.proofs.Widths.{unit-fits}
 use Rattle.rules.specs.declared.Placed.{Placed}
 use Rattle.rules.specs.declared.Refusal.{Refusal}
 use Rattle.rules.specs.declared.Verdict.{Verdict}
@@ -27,6 +29,13 @@ use Rattle.rules.specs.RecordGrounds.{isNone, unitGround, unitGrounds}
 use Rattle.rules.proofs.Keys.{units-below, sequenced-none, sequenced-more}
 use Rattle.rules.proofs.FirstGround.{then-assoc, refused-not, first-none, first-more, first-stop, turn-range}
 use Rattle.theoretical.specs.Credits.{ownGrounds, SumsSoFar, OneUnit, AllUnits}
+
+-- the widths of a unit record's fields
+module _ (s : List ℕ) (h : Header) (i : ℕ) (u : UnitRecord) (e : u ≡ unitAt s h i) where
+  pub unit-widths : (u .«module» < 64) × (u .recipe < 1024) × (u .time < 2 ^ 35) × (u .actual < 65536) × (u .effective < 65536)
+  unit-widths =
+      let f = unit-fits s (80 + 48 * h .states + 72 * h .standards + 88 * i) in
+      rw e (f .0, f .1 .0, f .1 .1 .0, f .1 .1 .1 .0, f .1 .1 .1 .1 .0)
 
 -- one unit record's credit is below 2 ^ 43
 pub credit-low : (units theoretical : ℕ) → units < 65536 → theoretical < 134217728 → units * theoretical < 2 ^ 43

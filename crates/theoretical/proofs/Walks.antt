@@ -2,18 +2,29 @@
 -- Assumes nothing.
 use mathlib.Core.Path.{_≡_, refl, sym, ap, _∙_}
 use mathlib.Core.Bool.{true, false}
-use mathlib.Core.Option.{some}
+use mathlib.Core.Option.{Option, none, some}
 use Prim.Native.Nat.{ℕ, zero, suc, _≤_, _<_}
 use native.Mathlib.Decide.{ℕ-discrete}
 use native.Mathlib.Omega.{arith}
 use borrow.Author.Tests.{eq-eqb, ne-eqb}
 use Rattle.records.specs.declared.Standard.{Standard}
 use Rattle.records.specs.Log.{upTo}
+use Rattle.rules.specs.declared.Placed.{Placed}
 use Rattle.rules.specs.Theoretical.{placed, placedFrom, hasBegun, lastWhere, lastInForce}
 use Rattle.rules.proofs.InForce.{other-recipe, not-begun, begun}
 use Rattle.rules.proofs.LastInForce.{last-more}
 use Rattle.theoretical.specs.declared.Lookup.the-variants.{Found, Nothing}
 use Rattle.theoretical.specs.Listing.{lastOf, lookupOf}
+
+-- ---- what the lookup answered
+
+pub found-is : (o : Option Placed) (p : Placed) → Found p ≡ lookupOf o → o ≡ some p
+found-is none p e = let z : _≡_ {A = ℕ} 0 1 = cc in absurd (omega arith)
+found-is (some t) p e = let q : t ≡ p = cc in ap {B = Option Placed} some q
+
+pub none-is : (o : Option Placed) → Nothing ≡ lookupOf o → o ≡ none
+none-is none e = refl
+none-is (some t) e = let z : _≡_ {A = ℕ} 0 1 = cc in absurd (omega arith)
 
 module _ (at : ℕ → Standard) (recipe : ℕ) where
   -- ---- the last of the recipe

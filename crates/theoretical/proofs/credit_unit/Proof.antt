@@ -1,52 +1,31 @@
 -- `theoretical::credit_unit` meets its contract: the record's own tests, then whether a standard is in force, then its sequence decide; its units are credited by that standard.
 -- Assumes nothing.
 use borrow.Author.Needs.{needs}
-use mathlib.Core.Path.{_≡_, refl, sym, ap, _∙_}
-use mathlib.Core.Option.{Option, none, some}
+use mathlib.Core.Path.{_≡_, sym, ap, _∙_}
+use mathlib.Core.Option.{some}
 use mathlib.Core.List.{List}
 use Prim.Native.Nat.{ℕ, _+_, _*_, _^_, _<_}
 use native.Mathlib.Omega.{arith}
 use Rattle.records.specs.declared.Header.{Header}
-use Rattle.records.specs.declared.UnitRecord.{UnitRecord}
 use Rattle.records.specs.Log.{upTo, standardAt, unitAt}
 use Rattle.records.specs.Fields.{unitFrom}
-use Rattle.records.proofs.Widths.{standard-fits, unit-fits}
+use Rattle.records.proofs.Widths.{standard-fits}
 use Rattle.rules.specs.declared.Placed.{Placed}
 use Rattle.rules.specs.Keys.{UnitFits}
-use Rattle.rules.specs.Theoretical.{inForce, Answers}
-use Rattle.rules.proofs.InForce.{in-force}
+use Rattle.rules.specs.Theoretical.{inForce}
+use Rattle.rules.proofs.InForce.{the-one}
 use Rattle.rules.proofs.LastInForce.{last-in-force}
-use Rattle.theoretical.specs.declared.Lookup.the-variants.{Found, Nothing}
 use Rattle.theoretical.specs.Listing.{lookupOf}
-use Rattle.theoretical.proofs.Crediting.{unit-own, unit-none, unit-unsorted, unit-credited}
+use Rattle.theoretical.proofs.Walks.{found-is, none-is}
+use Rattle.theoretical.proofs.Crediting.{unit-widths, unit-own, unit-none, unit-unsorted, unit-credited}
 use Rattle.theoretical.proofs.credit_unit.Statement.{statement}
 use Rattle.theoretical.proofs.credit_unit.Tie as tie
 
--- what the lookup answered is what is in force
-found-is : (o : Option Placed) (p : Placed) → Found p ≡ lookupOf o → o ≡ some p
-found-is none p e = let z : _≡_ {A = ℕ} 0 1 = cc in absurd (omega arith)
-found-is (some t) p e = let q : t ≡ p = cc in ap {B = Option Placed} some q
-
-none-is : (o : Option Placed) → Nothing ≡ lookupOf o → o ≡ none
-none-is none e = refl
-none-is (some t) e = let z : _≡_ {A = ℕ} 0 1 = cc in absurd (omega arith)
-
--- the widths of a unit record's fields
-module _ (s : List ℕ) (h : Header) (i : ℕ) (u : UnitRecord) (e : u ≡ unitAt s h i) where
-  widths : (u .«module» < 64) × (u .recipe < 1024) × (u .time < 2 ^ 35) × (u .actual < 65536) × (u .effective < 65536)
-  widths =
-      let f = unit-fits s (80 + 48 * h .states + 72 * h .standards + 88 * i) in
-      rw e (f .0, f .1 .0, f .1 .1 .0, f .1 .1 .1 .0, f .1 .1 .1 .1 .0)
-
 -- a standard in force is one of the log's
 short : (s : List ℕ) (h : Header) (n recipe time : ℕ) (x : Placed) → inForce (upTo (standardAt s h) n) recipe time ≡ some x → x .standard .theoretical < 134217728
-short s h n recipe time x e = go (inForce (upTo (standardAt s h) n) recipe time) e (in-force (standardAt s h) recipe time n)
-  where
-    go : (o : Option Placed) → o ≡ some x → Answers (standardAt s h) n recipe time o → x .standard .theoretical < 134217728
-    go none e a = let z : _≡_ {A = ℕ} 0 1 = cc in absurd (omega arith)
-    go (some y) e f =
-        let q : x .standard ≡ standardAt s h (y .index) = (cc) ∙ f .same in
-        rw q (standard-fits s (80 + 48 * h .states + 72 * y .index) .1 .1 .0)
+short s h n recipe time x e =
+    let f = the-one (standardAt s h) recipe time n x e in
+    rw (f .same) (standard-fits s (80 + 48 * h .states + 72 * x .index) .1 .1 .0)
 
 -- where unit record i begins
 reads : (c : tie.After-unit-from) → let a = c .before .before .args in c .unit-from .result ≡ unitAt (a .log .now) (a .h) (a .i)
@@ -65,7 +44,7 @@ look-up-requires c κs =
     let s = c .before .before .before .before .before in
     let a = s .args in
     let u = c .before .before .before in
-    let w = widths (a .log .now) (a .h) (a .i) (u .unit-from .result) (reads u) in
+    let w = unit-widths (a .log .now) (a .h) (a .i) (u .unit-from .result) (reads u) in
     (s .pre .0, (w .1, w .2))
 
 -- the standards rise, so what was looked up is what is in force
@@ -97,7 +76,7 @@ short-there c =
 
 wide : (c : tie.After-p)
     → let u = c .before .before .before .before .before .before .unit-from .result in (u .«module» < 64) × (u .recipe < 1024) × (u .time < 2 ^ 35) × (u .actual < 65536) × (u .effective < 65536)
-wide c = let a = c .before .before .before .before .before .before .before .before .args in let u = c .before .before .before .before .before .before in widths (a .log .now) (a .h) (a .i) (u .unit-from .result) (reads u)
+wide c = let a = c .before .before .before .before .before .before .before .before .args in let u = c .before .before .before .before .before .before in unit-widths (a .log .now) (a .h) (a .i) (u .unit-from .result) (reads u)
 
 fits : (c : tie.After-p) → UnitFits (c .before .before .before .before .before .before .unit-from .result)
 fits c = let w = wide c in (w .0, w .1, w .2)
