@@ -28,8 +28,8 @@ unfolding lastWhere upTo
 last-where-more test at n = foldl-append (λ found x. cond (test x) (some x) found) none (upTo at n) (at n ∷ [])
 
 -- one more standard
-pub last-more : (recipe time : ℕ) (at : ℕ → Standard) (n : ℕ) → lastInForce (upTo at (suc n)) recipe time ≡ cond (hasBegun recipe time (at n)) (some (placed n (at n))) (lastInForce (upTo at n) recipe time)
-last-more recipe time at n = rw (placed-up-to at (suc n), placed-up-to at n) (last-where-more (λ p. hasBegun recipe time (p .standard)) (λ i. placed i (at i)) n)
+pub last-force-more : (recipe time : ℕ) (at : ℕ → Standard) (n : ℕ) → lastInForce (upTo at (suc n)) recipe time ≡ cond (hasBegun recipe time (at n)) (some (placed n (at n))) (lastInForce (upTo at n) recipe time)
+last-force-more recipe time at n = rw (placed-up-to at (suc n), placed-up-to at n) (last-where-more (λ p. hasBegun recipe time (p .standard)) (λ i. placed i (at i)) n)
 
 -- ---- on a list that rises
 

@@ -21,7 +21,7 @@ unscheduledDown = 4
 abbrev pub nonscheduled : ℕ
 nonscheduled = 5
 
--- the lists, as a refusal names them
+-- the lists, as a refusal names them; the last one is not of a log, but lent beside it
 abbrev pub noList : ℕ
 noList = 0
 
@@ -33,3 +33,6 @@ ofStandards = 2
 
 abbrev pub ofUnits : ℕ
 ofUnits = 3
+
+abbrev pub ofBenchmarks : ℕ
+ofBenchmarks = 4

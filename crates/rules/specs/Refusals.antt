@@ -1,4 +1,4 @@
--- The tables of refusals, document 01's with R-1's 19 and R-2's 22: which list comes with which number.
+-- The tables of refusals, document 01's with R-1's 19, R-2's 22 and those of R-4: which list comes with which number.
 -- Definitions only.
 use Prim.Native.Nat.{ℕ}
 use mathlib.Core.Bool.{Bool, false, _&&_, _||_}
@@ -7,7 +7,7 @@ use lib.Dec.{T, eqb}
 use mathlib.Core.Path.{_≡_}
 use Rattle.rules.specs.declared.Refusal.{Refusal}
 use Rattle.rules.specs.declared.Verdict.the-variants.{Refused}
-use Rattle.rules.specs.Names.{noList, ofStates, ofStandards, ofUnits}
+use Rattle.rules.specs.Names.{noList, ofStates, ofStandards, ofUnits, ofBenchmarks}
 use Rattle.rules.specs.Verdict.{verdict}
 
 pub record Row : Type 0 where
@@ -29,6 +29,10 @@ logRefusals =
 -- those of the calls themselves: a module that an accepted log does not have, what does not fit its buffer, and a value that does not fit its field
 abbrev pub callRefusals : List Row
 callRefusals = row 7 noList ∷ row 18 noList ∷ row 22 noList ∷ row 22 ofStates ∷ row 22 ofStandards ∷ row 22 ofUnits ∷ []
+
+-- those of benchmarks
+abbrev pub benchmarkRefusals : List Row
+benchmarkRefusals = row 5 ofBenchmarks ∷ row 6 ofBenchmarks ∷ row 12 ofBenchmarks ∷ row 20 ofBenchmarks ∷ row 21 ofBenchmarks ∷ []
 
 abbrev pub isRow : List Row → ℕ → ℕ → Bool
 isRow [] n l = false

@@ -12,7 +12,7 @@ use Rattle.records.specs.Log.{upTo}
 use Rattle.rules.specs.declared.Placed.{Placed}
 use Rattle.rules.specs.Theoretical.{placed, placedFrom, hasBegun, lastWhere, lastInForce}
 use Rattle.rules.proofs.InForce.{other-recipe, not-begun, begun}
-use Rattle.rules.proofs.LastInForce.{last-more}
+use Rattle.rules.proofs.LastInForce.{last-force-more}
 use Rattle.theoretical.specs.declared.Lookup.the-variants.{Found, Nothing}
 use Rattle.theoretical.specs.Listing.{lastOf, lookupOf}
 
@@ -68,12 +68,12 @@ module _ (at : ℕ → Standard) (recipe : ℕ) where
 
     -- one that has not begun is passed over
     pub passed : (n i : ℕ) → Searching n (suc i) → hasBegun recipe time (at i) ≡ false → Searching n i
-    passed n i s e = record { within = omega (arith, s .within); same = s .same ∙ last-more recipe time at i ∙ rw e }
+    passed n i s e = record { within = omega (arith, s .within); same = s .same ∙ last-force-more recipe time at i ∙ rw e }
 
     -- the first that has is the one
     pub found : (n i : ℕ) → Searching n (suc i) → hasBegun recipe time (at i) ≡ true → Found (placed i (at i)) ≡ lookupOf (lastInForce (upTo at n) recipe time)
     found n i s e =
-        let answer : lastInForce (upTo at n) recipe time ≡ some (placed i (at i)) = s .same ∙ last-more recipe time at i ∙ rw e in
+        let answer : lastInForce (upTo at n) recipe time ≡ some (placed i (at i)) = s .same ∙ last-force-more recipe time at i ∙ rw e in
         sym (ap lookupOf answer)
 
     pub at-the-front : (n left : ℕ) → left ≡ 0 → Searching n left → Nothing ≡ lookupOf (lastInForce (upTo at n) recipe time)

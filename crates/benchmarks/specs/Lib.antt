@@ -1,0 +1,2 @@
+pub mod Benchmarks
+pub mod Taking
