@@ -12,6 +12,7 @@ use Rattle.rules.specs.declared.Verdict.{Verdict}
 use Rattle.rules.specs.Names.{ofBenchmarks}
 use Rattle.rules.specs.Grounds.{ground, _then_, firstOf}
 use Rattle.rules.specs.Theoretical.{unitsJudged}
+use Rattle.rules.specs.Quantities.{sumBelow}
 use Rattle.rules.specs.Verdict.{verdict}
 use Rattle.benchmarks.specs.declared.Benchmark.{Benchmark}
 
@@ -86,3 +87,7 @@ judgedTime time l at i = effectiveJudged l i * time (at i)
 -- the total effective units of benchmark i, times its standard's own time
 abbrev pub unitsTime : Log → (ℕ → Benchmark) → ℕ → ℕ
 unitsTime l at i = at i .units * timeAt l i
+
+-- such times of all standards
+abbrev pub ofAll : Log → (ℕ → ℕ) → ℕ
+ofAll l f = sumBelow f (standardsIn l)

@@ -98,7 +98,7 @@ fn rounded_in_steps(n: u64, d: u64) -> u64
 }
 
 // Ten thousand times n / d to the nearest whole number, a half going up. The sums of a tool are far below 2^48.
-fn rounded_of(n: u64, d: u64) -> u64
+pub fn rounded_of(n: u64, d: u64) -> u64
     requires { ⌜ Portion n d ⌝ }
     requires { ⌜ 0 < d ⌝ }
     ensures { λ r. ⌜ r ≡ roundedOf n d ⌝ }

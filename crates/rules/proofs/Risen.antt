@@ -7,7 +7,7 @@ use Prim.Native.Nat.{ℕ, suc, _+_, _*_}
 use lib.ListN.{length}
 use lib.Dec.{leb, ltb, eqb}
 use borrow.Author.Tests.{eqb-true, not-false}
-use Rattle.records.specs.Log.{headerOf, decode}
+use Rattle.records.specs.Log.{Log, headerOf, decode}
 use Rattle.records.specs.declared.StateRecord.{StateRecord}
 use Rattle.records.specs.declared.Standard.{Standard}
 use Rattle.records.specs.declared.UnitRecord.{UnitRecord}
@@ -82,19 +82,31 @@ units-rise period modules ss us e = turn-rising unitKey (unitGround period modul
 
 -- ---- a log
 
-pub risen : (s : List ℕ) → verdict s ≡ Accepted → Risen (decode s)
+-- each list of an accepted log is accepted
+pub record ListsAccepted (l : Log) : Type 0 where
+  pub states : stateGrounds (l .period) (l .modules) (l .states) ≡ Accepted
+  pub standards : standardGrounds (l .period) (l .standards) ≡ Accepted
+  pub units : unitGrounds (l .period) (l .modules) (l .standards) (l .units) ≡ Accepted
+
+pub lists-accepted : (s : List ℕ) → verdict s ≡ Accepted → ListsAccepted (decode s)
 unfolding verdict recordGrounds
-risen s e =
+lists-accepted s e =
     let l = decode s in
     let states = stateGrounds (l .period) (l .modules) (l .states) in
     let standards = standardGrounds (l .period) (l .standards) in
     let units = unitGrounds (l .period) (l .modules) (l .standards) (l .units) in
     let a : recordGrounds l ≡ Accepted = then-right (headerGrounds s) _ e in
     let b : standards then units then sumGrounds l ≡ Accepted = then-right states _ a in
+    record { states = then-left states _ a; standards = then-left standards _ b; units = then-left units _ (then-right standards _ b) }
+
+pub risen : (s : List ℕ) → verdict s ≡ Accepted → Risen (decode s)
+risen s e =
+    let l = decode s in
+    let a = lists-accepted s e in
     record {
-      states = states-rise (l .period) (l .modules) (l .states) (then-left states _ a);
-      standards = standards-rise (l .period) (l .standards) (then-left standards _ b);
-      units = units-rise (l .period) (l .modules) (l .standards) (l .units) (then-left units _ (then-right standards _ b));
+      states = states-rise (l .period) (l .modules) (l .states) (a .states);
+      standards = standards-rise (l .period) (l .standards) (a .standards);
+      units = units-rise (l .period) (l .modules) (l .standards) (l .units) (a .units);
     }
 
 pub whole-length : (s : List ℕ) → verdict s ≡ Accepted → length s ≡ 10 + 6 * headerOf s .states + 9 * headerOf s .standards + 11 * headerOf s .units

@@ -1,0 +1,2 @@
+pub mod Supplemental
+pub mod Calls
