@@ -7,7 +7,7 @@ use borrow.Author.Tests.{eqb-true}
 use lib.Dec.{T, ltb, eqb}
 use lib.ListN.{length}
 use Rattle.rules.specs.declared.Refusal.{Refusal}
-use Rattle.rules.specs.Refusals.{Row, isRow, Known, logRefusals, callRefusals}
+use Rattle.rules.specs.Refusals.{Row, isRow, Known, logRefusals, callRefusals, benchmarkRefusals}
 use Rattle.card.proofs.TextLines.{both}
 use Rattle.card.specs.Card.{card, field, word, meaning, lookFor, onCard}
 
@@ -36,3 +36,7 @@ refusals-worded x k = row-worded logRefusals (x .number) (x .list) tt k
 pub call-refusals-worded : (x : Refusal) → Known callRefusals x → T (worded (x .number))
 unfolding allWorded worded field card
 call-refusals-worded x k = row-worded callRefusals (x .number) (x .list) tt k
+
+pub benchmark-refusals-worded : (x : Refusal) → Known benchmarkRefusals x → T (worded (x .number))
+unfolding allWorded worded field card
+benchmark-refusals-worded x k = row-worded benchmarkRefusals (x .number) (x .list) tt k

@@ -6,7 +6,7 @@ use Prim.Native.Nat.{ℕ}
 use borrow.Author.Tests.{eq-eqb, ne-eqb}
 use Rattle.rules.specs.declared.Refusal.{Refusal}
 use Rattle.report.specs.Text.{ascii}
-use Rattle.card.specs.Card.{around, isModule, kind, whereabouts}
+use Rattle.card.specs.Card.{around, isModule, kind, whichBenchmark, whereabouts}
 
 module _ (list : ℕ) where
   pub a-state : list ≡ 1 → ascii " (a state record)" ≡ kind list
@@ -26,6 +26,14 @@ module _ (list : ℕ) where
   a-header a b c = rw (ne-eqb list 1 a, ne-eqb list 2 b, ne-eqb list 3 c)
 
 module _ (x : Refusal) where
+  pub all-benchmarks : x .number ≡ 5 → ascii " (the benchmarks)" ≡ whichBenchmark x
+  unfolding whichBenchmark
+  all-benchmarks e = rw e
+
+  pub one-benchmark : (x .number ≡ 5 → ⊥) → around " (benchmark " (x .place) ")" ≡ whichBenchmark x
+  unfolding whichBenchmark
+  one-benchmark n = rw (ne-eqb (x .number) 5 n)
+
   pub of-kind : x .number ≡ 22 → kind (x .list) ≡ whereabouts x
   unfolding whereabouts
   of-kind e = rw (eq-eqb (x .number) 22 e)
@@ -43,11 +51,15 @@ module _ (x : Refusal) where
     unfolding whereabouts
     in-units e = rw (ne-eqb (x .number) 22 n, e)
 
-    module _ (a : x .list ≡ 1 → ⊥) (b : x .list ≡ 2 → ⊥) (c : x .list ≡ 3 → ⊥) where
+    pub in-benchmarks : x .list ≡ 4 → whichBenchmark x ≡ whereabouts x
+    unfolding whereabouts
+    in-benchmarks e = rw (ne-eqb (x .number) 22 n, e)
+
+    module _ (a : x .list ≡ 1 → ⊥) (b : x .list ≡ 2 → ⊥) (c : x .list ≡ 3 → ⊥) (d : x .list ≡ 4 → ⊥) where
       pub at-module : isModule x ≡ true → around " (module " (x .place) ")" ≡ whereabouts x
       unfolding whereabouts
-      at-module e = rw (ne-eqb (x .number) 22 n, ne-eqb (x .list) 1 a, ne-eqb (x .list) 2 b, ne-eqb (x .list) 3 c, e)
+      at-module e = rw (ne-eqb (x .number) 22 n, ne-eqb (x .list) 1 a, ne-eqb (x .list) 2 b, ne-eqb (x .list) 3 c, ne-eqb (x .list) 4 d, e)
 
       pub at-none : isModule x ≡ false → [] ≡ whereabouts x
       unfolding whereabouts
-      at-none e = rw (ne-eqb (x .number) 22 n, ne-eqb (x .list) 1 a, ne-eqb (x .list) 2 b, ne-eqb (x .list) 3 c, e)
+      at-none e = rw (ne-eqb (x .number) 22 n, ne-eqb (x .list) 1 a, ne-eqb (x .list) 2 b, ne-eqb (x .list) 3 c, ne-eqb (x .list) 4 d, e)

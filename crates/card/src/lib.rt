@@ -5,7 +5,7 @@ ghost use Prim.Native.Nat.{_+_, _≤_, _<_};
 ghost use lib.ListN.{length, drop, getD};
 ghost use Rattle.filling.specs.Buffer.{Put, AtFront};
 ghost use Rattle.report.specs.Report.{decimal};
-ghost use Rattle.card.specs.Card.{card, field, onCard, rowText, explained, isModule, kind, whereabouts, wordsOf};
+ghost use Rattle.card.specs.Card.{card, field, onCard, rowText, explained, isModule, kind, whichBenchmark, whereabouts, wordsOf};
 ghost use Rattle.card.specs.Fields.{firstLine, behindLine, behindLines};
 use rules::Refusal;
 
@@ -56,14 +56,14 @@ fn put_card_line(buf: &mut [u8], at: usize, k: usize) -> usize
         period\n0 or over 366 days (31,622,400,000 ms)\nthe start and end of the export\n\
         modules\n0 or over 64\nthe tool's configuration\n\
         counts\nover 6,000 state records, 512 standards or 2,000 unit records\nan export over too long a time: cut it\n\
-        length\nbytes other than 10 + 6 states + 9 standards + 11 units\na transfer cut off, or bytes behind the log\n\
+        length\nbytes other than 10 + 6 states + 9 standards + 11 units; benchmarks: 14 for each standard\na transfer cut off, or bytes behind the log; benchmarks of another log\n\
         spare\na spare bit set\nanother version of the format, or bytes out of step\n\
         stray module\nmodule at or above the module count\na module added after the header was set\n\
         stray code\nsub-state code above 23\ncodes of the controller's own that are not mapped\n\
         outside\ntime or start at or past the period\na clock set during the period, or records of the next one\n\
         sequence\ntime, then module, not above the record before, or not later than its own module's last\na clock set back; a change logged twice; modules of one time out of sequence\n\
         no opening\na module whose first record is not at time 0, or that has none\nthe module's state at the start of the period\n\
-        no time\ntheoretical time 0\na recipe that was entered without its time\n\
+        no time\ntheoretical time 0, or a time of a benchmark 0\na recipe that was entered without its time\n\
         twice\nrecipe and start both equal to an earlier standard's\na revision entered twice\n\
         over-good\neffective units above actual units\ngood and made units exchanged; rework counted twice\n\
         no standard\nnone in force for a unit record\na recipe that ran ahead of its first standard\n\
@@ -71,8 +71,8 @@ fn put_card_line(buf: &mut [u8], at: usize, k: usize) -> usize
         too great\na tool sum above 9,007,199,254,740,991 ms\nno log can reach it\n\
         short buffer\nreport longer than the buffer, or a record that does not fit at its position\nlend 2,494 bytes, which hold every report; 62,618 hold every log\n\
         unsorted\nout of rising sequence: standards by recipe and start, units by time, module and recipe\nsort the list by these fields, ascending; merge unit records that agree in all three\n\
-        \n\n\n\
-        \n\n\n\
+        above standard\na time of a benchmark above its standard's theoretical time\nbenchmarks out of the standards' sequence, or those of another revision\n\
+        over-counted\ntotal effective units of a benchmark above the effective units judged by its standard\nunits of another period or revision; scrap or rework of this tool counted as good\n\
         too wide\na value does not fit its field\na value in another unit than ms, a number of the controller's own, or a count that ran on\n\
         ",
         k,
@@ -119,7 +119,7 @@ fn put_row(buf: &mut [u8], n: usize) -> usize
 fn is_on_card(n: usize) -> bool
     ensures { λ r. ⌜ r ≡ onCard n ⌝ }
 {
-    n == 22 || (1 <= n && n <= 19)
+    1 <= n && n <= 22
 }
 
 // Writes the row of number n to the front of the buffer and answers its length: 0, and no byte changed, where the card does not have the number.
@@ -166,7 +166,19 @@ fn put_kind(buf: &mut [u8], at: usize, list: usize) -> usize
     filling::put_text(buf, at, b" (a header)")
 }
 
-// Where a refusal points to: the kind of record, the record and its list, or the module. The caller owes the room.
+// The benchmark that a refusal of list 4 points to, or all of them. The caller owes the room.
+fn put_benchmark(buf: &mut [u8], at: usize, x: Refusal) -> usize
+    requires { ⌜ at + 50 ≤ length (now buf) ⌝ }
+    ensures { λ r. ⌜ Put (whichBenchmark x) (now (buf .entry)) at r (now (buf .exit)) ⌝ }
+    ensures { λ r. ⌜ r ≤ at + 50 ⌝ }
+{
+    if x.number == 5 {
+        return filling::put_text(buf, at, b" (the benchmarks)");
+    }
+    put_around(buf, at, b" (benchmark ", x.place, b")")
+}
+
+// Where a refusal points to: the kind of record, the record and its list, the benchmark, or the module. The caller owes the room.
 fn put_whereabouts(buf: &mut [u8], at: usize, x: Refusal) -> usize
     requires { ⌜ at + 50 ≤ length (now buf) ⌝ }
     ensures { λ r. ⌜ Put (whereabouts x) (now (buf .entry)) at r (now (buf .exit)) ⌝ }
@@ -183,6 +195,9 @@ fn put_whereabouts(buf: &mut [u8], at: usize, x: Refusal) -> usize
     }
     if x.list == 3 {
         return put_around(buf, at, b" (record ", x.place, b" of the units)");
+    }
+    if x.list == 4 {
+        return put_benchmark(buf, at, x);
     }
     if is_module(x) {
         return put_around(buf, at, b" (module ", x.place, b")");

@@ -3,7 +3,7 @@ use borrow.Author.Needs.{needs}
 use mathlib.Core.Path.{sym, _∙_}
 use native.Mathlib.Omega.{arith}
 use Rattle.filling.proofs.Written.{read-as, put-nothing}
-use Rattle.card.proofs.Whereabouts.{of-kind, in-states, in-standards, in-units, at-module, at-none}
+use Rattle.card.proofs.Whereabouts.{of-kind, in-states, in-standards, in-units, in-benchmarks, at-module, at-none}
 use Rattle.card.proofs.put_whereabouts.Statement.{statement}
 use Rattle.card.proofs.put_whereabouts.Tie as tie
 
@@ -32,13 +32,21 @@ returns-4 c =
 
 returns-5 : tie.Need-returns-5
 returns-5 c =
-    let p = c .before .before .put-around4 .ensures in
-    let i = c .before .before .before .before .before .before in
-    (read-as (at-module _ (i .before .before .before .before .before .before .before .before .if1 .left) (i .before .before .before .before .before .before .if2 .left) (i .before .before .before .before .if3 .left) (i .before .before .if4 .left) (sym (i .before .is-module .ensures) ∙ i .if5 .taken)) (p .0), omega (arith, p .1))
+    let p = c .before .before .put-benchmark .ensures in
+    let i = c .before .before .before .before in
+    (read-as (in-benchmarks _ (i .before .before .before .before .before .before .before .before .if1 .left) (i .if5 .taken)) (p .0), p .1)
 
 returns-6 : tie.Need-returns-6
 returns-6 c =
-    let e = at-none _ (c .before .before .before .before .before .before .before .before .if1 .left) (c .before .before .before .before .before .before .if2 .left) (c .before .before .before .before .if3 .left) (c .before .before .if4 .left) (sym (c .before .is-module .ensures) ∙ c .if5 .left) in
+    let p = c .before .before .put-around4 .ensures in
+    let i = c .before .before .before .before .before .before in
+    let b = i .before .before in
+    (read-as (at-module _ (b .before .before .before .before .before .before .before .before .if1 .left) (b .before .before .before .before .before .before .if2 .left) (b .before .before .before .before .if3 .left) (b .before .before .if4 .left) (b .if5 .left) (sym (i .before .is-module .ensures) ∙ i .if6 .taken)) (p .0), omega (arith, p .1))
+
+returns-7 : tie.Need-returns-7
+returns-7 c =
+    let b = c .before .before in
+    let e = at-none _ (b .before .before .before .before .before .before .before .before .if1 .left) (b .before .before .before .before .before .before .if2 .left) (b .before .before .before .before .if3 .left) (b .before .before .if4 .left) (b .if5 .left) (sym (c .before .is-module .ensures) ∙ c .if6 .left) in
     (read-as e (put-nothing _ _), omega arith)
 
 pub put-whereabouts-spec : {M : Type 1} → statement M
@@ -65,8 +73,11 @@ put-whereabouts-spec =
     returns-4
     (λ c κs. search needs)
     (λ c. search needs)
+    returns-5
+    (λ c κs. search needs)
+    (λ c. search needs)
     (λ c. search needs)
     (λ c κs. search needs)
     (λ c. search needs)
-    returns-5
-    returns-6)
+    returns-6
+    returns-7)
