@@ -35,8 +35,8 @@ pub fn put_decimal(buf: &mut [u8], at: usize, n: u64) -> usize
     }
 }
 
-// Ten-thousandths with four places: 9702 is 0.9702. The compiler sees that p is below 2^32, which makes its digits cheap.
-fn put_places(buf: &mut [u8], at: usize, figure: u64) -> usize
+// Ten-thousandths with four places: 9702 is 0.9702. The compiler sees that p is below 2^32, which makes its digits cheap. The caller owes the room.
+pub fn put_places(buf: &mut [u8], at: usize, figure: u64) -> usize
     requires { ⌜ (figure < 2 ^ 32) × (at + 6 ≤ length (now buf)) ⌝ }
     ensures { λ r. ⌜ Put (places figure) (now (buf .entry)) at r (now (buf .exit)) ⌝ }
 {

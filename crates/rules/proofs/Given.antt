@@ -35,10 +35,17 @@ module _ {A R : Type 0} {answered : A → R} {refused : Refusal → R} (apart : 
   given-by Accepted b r e q same ok known = subst (Given answered refused v a Promise Allowed) (sym e) (given-answered b (sym q) (same refl) (ok refl))
   given-by (Refused x) b r e q same ok known = subst (Given answered refused v a Promise Allowed) (sym e) (given-refused x (sym q) (known x (sym q)))
 
-  -- what was answered is the value of an accepting verdict, and what was refused is the verdict's refusal
+  -- what was answered is the value of an accepting verdict, and what was refused is the verdict's own refusal
   pub was-answered : (b : A) → answered b ≡ answerOf answered refused v a → (v ≡ Accepted) × (b ≡ a)
   was-answered b = go v
     where
       go : (w : Verdict) → answered b ≡ answerOf answered refused w a → (w ≡ Accepted) × (b ≡ a)
       go Accepted e = (refl, apart .one-answer b a e)
       go (Refused x) e = absurd (apart .never b x e)
+
+  pub was-refused : (x : Refusal) → refused x ≡ answerOf answered refused v a → v ≡ Refused x
+  was-refused x = go v
+    where
+      go : (w : Verdict) → refused x ≡ answerOf answered refused w a → w ≡ Refused x
+      go Accepted e = absurd (apart .never a x (sym e))
+      go (Refused y) e = ap {B = Verdict} Refused (apart .one-refusal y x (sym e))

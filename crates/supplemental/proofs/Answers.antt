@@ -31,8 +31,8 @@ use Rattle.supplemental.specs.declared.SupplementalAnswer.the-variants a
 use Rattle.supplemental.specs.Supplemental.{supplementalOf, AllRounded}
 use Rattle.supplemental.specs.Calls.{WithBenchmarks, of-log, of-benchmarks, ToolSupplemental}
 
-apart : Apart supplemental.Answered supplemental.Refused
-apart = record { never = λ a x e. (let z : _≡_ {A = ℕ} 0 1 = cc in omega arith); one-answer = λ a b e. (cc); one-refusal = λ x y e. (cc) }
+pub supplemental-apart : Apart supplemental.Answered supplemental.Refused
+supplemental-apart = record { never = λ a x e. (let z : _≡_ {A = ℕ} 0 1 = cc in omega arith); one-answer = λ a b e. (cc); one-refusal = λ x y e. (cc) }
 
 -- ---- the refusals of benchmarks
 
@@ -56,7 +56,7 @@ module _ (s b : List ℕ) where
 
   pub log-refused : (x : Refusal) → OfLog s x → ToolSupplemental s b (supplemental.Refused x)
   unfolding verdictWith
-  log-refused x o = given-refused apart (verdictWith s b) _ _ (WithBenchmarks s b) x (ap (λ (v : Verdict). v then benchmarkGrounds (decode s) b) (o .met)) (of-log o)
+  log-refused x o = given-refused supplemental-apart (verdictWith s b) _ _ (WithBenchmarks s b) x (ap (λ (v : Verdict). v then benchmarkGrounds (decode s) b) (o .met)) (of-log o)
 
   -- ---- one that is accepted
 
@@ -88,7 +88,7 @@ module _ (s b : List ℕ) where
     tested-with = ap (λ (v : Verdict). v then benchmarkGrounds (decode s) b) a
 
     benchmark-refused : (x : Refusal) → benchmarkGrounds (decode s) b ≡ Refused x → ToolSupplemental s b (supplemental.Refused x)
-    benchmark-refused x e = given-refused apart (verdictWith s b) _ _ (WithBenchmarks s b) x (tested-with ∙ e) (of-benchmarks a e (known-benchmarks (decode s) b .known x e))
+    benchmark-refused x e = given-refused supplemental-apart (verdictWith s b) _ _ (WithBenchmarks s b) x (tested-with ∙ e) (of-benchmarks a e (known-benchmarks (decode s) b .known x e))
 
     -- of another length
     pub length-refused : (length b ≡ 14 * headerOf s .standards → ⊥) → ToolSupplemental s b (supplemental.Refused (record { number = 5; list = 4; place = 0 }))
@@ -105,4 +105,4 @@ module _ (s b : List ℕ) where
 
       pub figures-answered : (f : Supplemental) → firstOf (groundAt (decode s) (benchmarkAt b)) (standardsIn (decode s)) ≡ Accepted → f ≡ supplementalOf (decode s) (benchmarkAt b)
           → AllRounded (decode s) (benchmarkAt b) (supplementalOf (decode s) (benchmarkAt b)) → ToolSupplemental s b (supplemental.Answered f)
-      figures-answered f e q ok = given-answered apart (verdictWith s b) _ _ (WithBenchmarks s b) f (tested-with ∙ one-by-one ∙ e) q ok
+      figures-answered f e q ok = given-answered supplemental-apart (verdictWith s b) _ _ (WithBenchmarks s b) f (tested-with ∙ one-by-one ∙ e) q ok
