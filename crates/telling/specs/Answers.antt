@@ -11,9 +11,12 @@ use Rattle.answering.specs.declared.QuantitiesAnswer.{QuantitiesAnswer}
 use Rattle.answering.specs.declared.QuantitiesAnswer.the-variants as quantities
 use Rattle.answering.specs.declared.FiguresAnswer.{FiguresAnswer}
 use Rattle.answering.specs.declared.FiguresAnswer.the-variants as figures
+use Rattle.supplemental.specs.declared.SupplementalAnswer.{SupplementalAnswer}
+use Rattle.supplemental.specs.declared.SupplementalAnswer.the-variants as supplemental
 use Rattle.writing.specs.declared.PositionAnswer.{PositionAnswer}
 use Rattle.writing.specs.declared.PositionAnswer.the-variants as position
 use Rattle.rules.specs.Quantities.{timesOf, quantitiesOf}
+use Rattle.supplemental.specs.Supplemental.{supplementalsOf}
 use Rattle.telling.specs.Arrays.{ratiosOf, basesOf}
 
 -- ---- state times
@@ -49,6 +52,16 @@ ratiosAfter (figures.Refused x) before = before
 abbrev pub basesAfter : FiguresAnswer → List ℕ → List ℕ
 basesAfter (figures.Answered f) before = basesOf f
 basesAfter (figures.Refused x) before = before
+
+-- ---- supplemental figures
+
+abbrev pub supplementalVerdict : SupplementalAnswer → Verdict
+supplementalVerdict (supplemental.Answered f) = verdict.Accepted
+supplementalVerdict (supplemental.Refused x) = verdict.Refused x
+
+abbrev pub supplementalAfter : SupplementalAnswer → List ℕ → List ℕ
+supplementalAfter (supplemental.Answered f) before = supplementalsOf f
+supplementalAfter (supplemental.Refused x) before = before
 
 -- ---- positions
 

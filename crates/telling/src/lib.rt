@@ -2,9 +2,10 @@
 ghost use mathlib.Core.Path.{_≡_};
 ghost use lib.Ieee.{nan};
 ghost use Rattle.rules.specs.Quantities.{timesOf, quantitiesOf};
+ghost use Rattle.supplemental.specs.Supplemental.{supplementalsOf};
 ghost use Rattle.telling.specs.Arrays.{ratioOf, baseOf, ratiosOf, basesOf};
 ghost use Rattle.telling.specs.Told.{Told};
-ghost use Rattle.telling.specs.Answers.{timesVerdict, timesAfter, quantitiesVerdict, quantitiesAfter, figuresVerdict, ratiosAfter, basesAfter, positionVerdict, nextAfter};
+ghost use Rattle.telling.specs.Answers.{timesVerdict, timesAfter, quantitiesVerdict, quantitiesAfter, figuresVerdict, ratiosAfter, basesAfter, supplementalVerdict, supplementalAfter, positionVerdict, nextAfter};
 use answering::FiguresAnswer;
 use answering::QuantitiesAnswer;
 use answering::StateTimesAnswer;
@@ -13,6 +14,8 @@ use e79::Figures;
 use e79::Quantities;
 use rules::StateTimes;
 use rules::Verdict;
+use supplemental::Supplemental;
+use supplemental::SupplementalAnswer;
 use writing::PositionAnswer;
 
 // 1 where the verdict accepts, else 0; and the refusal's array.
@@ -154,6 +157,29 @@ pub fn tell_figures(
             tell(Verdict::Accepted, refusal)
         }
         FiguresAnswer::Refused(x) => tell(Verdict::Refused(x), refusal),
+    }
+}
+
+fn put_supplemental(f: Supplemental, figures: &mut [u64; 4])
+    ensures { λ _. ⌜ now (figures .exit) ≡ supplementalsOf f ⌝ }
+{
+    *figures = [f.reference, f.optimized, f.added, f.units];
+}
+
+pub fn tell_supplemental(
+    answer: SupplementalAnswer,
+    figures: &mut [u64; 4],
+    refusal: &mut [u64; 3],
+) -> u32
+    ensures { λ r. ⌜ Told (supplementalVerdict answer) r (now (refusal .exit)) ⌝ }
+    ensures { λ _. ⌜ now (figures .exit) ≡ supplementalAfter answer (now (figures .entry)) ⌝ }
+{
+    match answer {
+        SupplementalAnswer::Answered(f) => {
+            put_supplemental(f, figures);
+            tell(Verdict::Accepted, refusal)
+        }
+        SupplementalAnswer::Refused(x) => tell(Verdict::Refused(x), refusal),
     }
 }
 

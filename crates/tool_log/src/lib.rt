@@ -18,7 +18,14 @@ pub use reporting::print_report;
 pub use reporting::report;
 pub use reporting::write_report;
 
-// The tables of state times and of quantities, a refusal in words, and its row on the card.
+// The supplemental figures of the tool.
+pub use supplemental::Supplemental;
+pub use supplemental::SupplementalAnswer;
+pub use supplemental::tool_supplemental;
+
+// The tables of state times and of quantities, the lines of supplemental figures, a refusal in words, and its row on the card.
+pub use appendix::print_supplemental;
+pub use appendix::print_supplemental_words;
 pub use card::explain;
 pub use card::words_of;
 pub use printing::Table;

@@ -18,12 +18,16 @@ use Rattle.answering.specs.declared.QuantitiesAnswer.the-variants as quantities
 use Rattle.answering.specs.declared.FiguresAnswer.{FiguresAnswer}
 use Rattle.answering.specs.declared.FiguresAnswer.the-variants as figures
 use Rattle.rules.specs.Answers.{answerOf, Given}
+use Rattle.supplemental.specs.declared.Supplemental.{Supplemental}
+use Rattle.supplemental.specs.declared.SupplementalAnswer.{SupplementalAnswer}
+use Rattle.supplemental.specs.declared.SupplementalAnswer.the-variants as supplemental
+use Rattle.supplemental.specs.Supplemental.{supplementalsOf}
 use Rattle.writing.specs.declared.PositionAnswer.{PositionAnswer}
 use Rattle.writing.specs.Writing.{Entry, Added}
 use Rattle.rules.specs.Quantities.{timesOf, quantitiesOf}
 use Rattle.telling.specs.Arrays.{ratiosOf, basesOf}
 use Rattle.telling.specs.Told.{answerOr, Told}
-use Rattle.telling.specs.Answers.{timesVerdict, timesAfter, quantitiesVerdict, quantitiesAfter, figuresVerdict, ratiosAfter, basesAfter, positionVerdict, nextAfter}
+use Rattle.telling.specs.Answers.{timesVerdict, timesAfter, quantitiesVerdict, quantitiesAfter, figuresVerdict, ratiosAfter, basesAfter, supplementalVerdict, supplementalAfter, positionVerdict, nextAfter}
 use Rattle.tool_log_c.specs.Calls.{Promised, Tells, TellsNumbers, TellsDoubles, TellsAdding}
 
 -- ---- for every kind of answer
@@ -82,6 +86,10 @@ module _ {v : Verdict} {Allowed : Refusal → Type 0} {flag : ℕ} {refusal : Li
   pub quantities-told : {q : Quantities} {Promise : Quantities → Type 0} {r : QuantitiesAnswer} {before after : List ℕ} → Given quantities.Answered quantities.Refused v q Promise Allowed r
       → Told (quantitiesVerdict r) flag refusal → after ≡ quantitiesAfter r before → TellsNumbers v (quantitiesOf q) before (Promise q) Allowed flag after refusal
   quantities-told g t e = numbers-told g quantitiesVerdict quantitiesAfter quantitiesOf (λ b. refl) (λ x. refl) (λ b. refl) (λ x. refl) t e
+
+  pub supplemental-told : {f : Supplemental} {Promise : Supplemental → Type 0} {r : SupplementalAnswer} {before after : List ℕ} → Given supplemental.Answered supplemental.Refused v f Promise Allowed r
+      → Told (supplementalVerdict r) flag refusal → after ≡ supplementalAfter r before → TellsNumbers v (supplementalsOf f) before (Promise f) Allowed flag after refusal
+  supplemental-told g t e = numbers-told g supplementalVerdict supplementalAfter supplementalsOf (λ b. refl) (λ x. refl) (λ b. refl) (λ x. refl) t e
 
   pub figures-told : {q : Quantities} {r : FiguresAnswer} {before after : List Float} {basedBefore based : List ℕ} → Given figures.Answered figures.Refused v (figuresOf q) (Accurate q) Allowed r
       → Told (figuresVerdict r) flag refusal → after ≡ ratiosAfter r before → based ≡ basesAfter r basedBefore → TellsDoubles v q before basedBefore Allowed flag after based refusal

@@ -18,6 +18,9 @@ use Rattle.rules.specs.Verdict.{verdict, verdictOn}
 use Rattle.answering.specs.Calls.{OnModule}
 use Rattle.rules.specs.Refusals.{OfLog}
 use Rattle.reporting.specs.Reports.{verdictFor, ForRoom}
+use Rattle.benchmarks.specs.Benchmarks.{benchmarkAt, verdictWith}
+use Rattle.supplemental.specs.Supplemental.{supplementalOf, supplementalsOf, AllRounded}
+use Rattle.supplemental.specs.Calls.{WithBenchmarks}
 use Rattle.writing.specs.Writing.{Entry, addVerdict, addBuffer, OfAdding, finishVerdict, OfFinishing}
 use Rattle.telling.specs.Arrays.{ratiosOf, basesOf}
 use Rattle.telling.specs.Told.{answerOr, Told}
@@ -66,6 +69,12 @@ abbrev pub TellsToolQuantities : List ℕ → List ℕ → ℕ → List ℕ → 
 TellsToolQuantities s before r after refusal =
     let q = ofTool (decode s) in
     TellsNumbers (verdict s) (quantitiesOf q) before (Ordered q) (OfLog s) r after refusal
+
+-- the tool's four supplemental figures, each the nearest whole number and at most 10,000
+abbrev pub TellsSupplemental : List ℕ → List ℕ → List ℕ → ℕ → List ℕ → List ℕ → Type 0
+TellsSupplemental s b before r after refusal =
+    let f = supplementalOf (decode s) (benchmarkAt b) in
+    TellsNumbers (verdictWith s b) (supplementalsOf f) before (AllRounded (decode s) (benchmarkAt b) f) (WithBenchmarks s b) r after refusal
 
 -- ---- doubles
 

@@ -1,6 +1,6 @@
 // What a dashboard links: the calls of `tool_log` as C functions. None has a `requires`, and each array that a caller lends has a fixed size.
 ghost use Rattle.reporting.specs.Reports.{Written};
-ghost use Rattle.tool_log_c.specs.Calls.{TellsVerdict, TellsModuleTimes, TellsToolTimes, TellsModuleQuantities, TellsToolQuantities, TellsModuleFigures, TellsToolFigures, TellsAdding, TellsFinishing};
+ghost use Rattle.tool_log_c.specs.Calls.{TellsVerdict, TellsModuleTimes, TellsToolTimes, TellsModuleQuantities, TellsToolQuantities, TellsModuleFigures, TellsToolFigures, TellsSupplemental, TellsAdding, TellsFinishing};
 ghost use Rattle.writing.specs.Writing.{headerEntry, stateEntry, standardEntry, unitEntry};
 
 // ---- the verdict and the report
@@ -99,6 +99,25 @@ pub extern "C" fn tl_tool_figures(
     ensures { λ r. ⌜ TellsToolFigures (now (log .entry)) (now (figures .entry)) (now (based .entry)) r (now (figures .exit)) (now (based .exit)) (now (refusal .exit)) ⌝ }
 {
     telling::tell_figures(tool_log::tool_figures(log), figures, based, refusal)
+}
+
+// ---- supplemental figures
+
+// The tool's four supplemental figures, by one benchmark of 14 bytes for each standard.
+#[no_mangle]
+pub extern "C" fn tl_supplemental(
+    log: &[u8],
+    benchmarks: &[u8],
+    figures: &mut [u64; 4],
+    refusal: &mut [u64; 3],
+) -> u32
+    ensures { λ r. ⌜ TellsSupplemental (now (log .entry)) (now (benchmarks .entry)) (now (figures .entry)) r (now (figures .exit)) (now (refusal .exit)) ⌝ }
+{
+    telling::tell_supplemental(
+        tool_log::tool_supplemental(log, benchmarks),
+        figures,
+        refusal,
+    )
 }
 
 // ---- writing a log
