@@ -1,4 +1,4 @@
-// One command for a log: its report, its state times, its quantities, and what a refusal means.
+// One command for a log: its report, its state times, its quantities, its supplemental figures, and what a refusal means.
 ghost use Prim.Native.Nat.{_≤_};
 ghost use lib.ListN.{length};
 use libc::STDERR_FILENO;
@@ -10,13 +10,15 @@ fn help(fd: i32) {
     io::write_all(
         fd,
         b"\
-toollog report [LOG]       the four efficiencies and OEE of each module and of the tool\n\
-toollog times [LOG]        their six state times, in ms\n\
-toollog quantities [LOG]   their total time, uptime, production time and theoretical times, in ms\n\
-toollog explain N          what refusal N means, and what to look for\n\
-toollog help               this text\n\
+toollog report [LOG]                  the four efficiencies and OEE of each module and of the tool\n\
+toollog times [LOG]                   their six state times, in ms\n\
+toollog quantities [LOG]              their total time, uptime, production time and theoretical times, in ms\n\
+toollog supplemental LOG BENCHMARKS   the four supplemental figures of the tool: reference, optimized, value-added, total effective units\n\
+toollog explain N                     what refusal N means, and what to look for\n\
+toollog help                          this text\n\
 \n\
 LOG is the name of a file. Left out, or -, it is standard input.\n\
+BENCHMARKS is the name of a file with 14 bytes for each standard of the log; - is standard input.\n\
 A refused log prints 'refused N list L at P', and why in words on standard error.\n",
     );
 }
@@ -95,6 +97,77 @@ fn answer(asked: Asked) {
     }
 }
 
+// ---- the supplemental figures
+
+// Prints why the benchmarks of this source are refused, if they are and their log is not.
+fn print_benchmark_words(source: &[u8], log: &[u8], benchmarks: &[u8])
+    requires { ⌜ length (now source) ≤ 4096 ⌝ }
+{
+    let mut space = [0u8; 512];
+    let of_log = tool_log::print_words(log, &mut space);
+    if of_log > 0 {
+        return;
+    }
+    let size = tool_log::print_supplemental_words(log, benchmarks, &mut space);
+    if size > 0 {
+        saying::complain(source, &space[..size]);
+    }
+}
+
+// The figures of the log of this name, by the benchmarks of this source.
+fn print_supplemental(name: &[u8], log: &[u8], source: &[u8], benchmarks: &[u8])
+    requires { ⌜ (length (now name) ≤ 4096) × (length (now source) ≤ 4096) ⌝ }
+{
+    let mut space = [0u8; 96];
+    let size = tool_log::print_supplemental(log, benchmarks, &mut space);
+    put_out(&space[..size]);
+    print_words(name, log);
+    print_benchmark_words(source, log, benchmarks);
+}
+
+// Whether argument i is `-`.
+fn is_input(i: usize) -> bool {
+    let mut text = [0u8; 2];
+    let n = os::arg(i, &mut text);
+    check::same(&text[..n], b"-")
+}
+
+// The benchmarks of the longest log take 7,168 bytes.
+fn read_both() {
+    let mut name = io::buffer();
+    let mut log = [0u8; 62619];
+    let first = reading::read_log(2, &mut name, &mut log);
+    if !first.is_read {
+        return;
+    }
+    let mut source = io::buffer();
+    let mut benchmarks = [0u8; 7169];
+    let second = reading::read_log(3, &mut source, &mut benchmarks);
+    if second.is_read {
+        print_supplemental(
+            &name[..first.name],
+            &log[..first.size],
+            &source[..second.name],
+            &benchmarks[..second.size],
+        );
+    }
+}
+
+fn supplemental() {
+    if has_too_many(4) {
+        return;
+    }
+    if os::arg_count() < 4 {
+        saying::complain(b"supplemental", b"LOG and BENCHMARKS are needed\n");
+        return;
+    }
+    if is_input(2) && is_input(3) {
+        saying::complain(b"supplemental", b"standard input cannot be both\n");
+        return;
+    }
+    read_both();
+}
+
 // ---- what a refusal means
 
 fn explain_number(text: &[u8], number: u64)
@@ -145,6 +218,8 @@ fn run(word: &[u8]) {
         answer(Asked::Times);
     } else if check::same(word, b"quantities") {
         answer(Asked::Quantities);
+    } else if check::same(word, b"supplemental") {
+        supplemental();
     } else if check::same(word, b"explain") {
         explain();
     } else if check::same(word, b"help") {
