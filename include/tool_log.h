@@ -1,11 +1,11 @@
 /*
- * tool_log.h: the packed log of a semiconductor tool, answered: state times, the quantities and efficiencies of SEMI E79, and the shift report; and
- * written, record by record.
+ * tool_log.h: the packed log of a semiconductor tool, answered: state times, the quantities, efficiencies and supplemental figures of SEMI E79, and
+ * the shift report; and written, record by record.
  *
  * Link libtool_log_c.a (x86-64 Linux). It needs nothing but C's memcpy and memset.
  *
- * Every function takes any sequence of bytes as a log and always returns. It keeps no state, allocates nothing and calls nothing back, so threads
- * may call it at the same time with arrays of their own. It uses less than 64 KiB of stack.
+ * Every function takes any sequence of bytes as a log, or as benchmarks, and always returns. It keeps no state, allocates nothing and calls nothing
+ * back, so threads may call it at the same time with arrays of their own. It uses less than 64 KiB of stack.
  *
  * What a function answers
  *   1  answered (tl_examine and tl_finish_log: accepted; tl_put_...: added). The answer's arrays are filled, and `refusal` becomes three zeros.
@@ -13,10 +13,10 @@
  *   tl_report alone answers a length instead, and takes no `refusal`: tl_examine gives the reason.
  *
  * What a caller can still do wrong
- *   - Pass a null pointer. None is taken, not even for a log or a buffer of 0 bytes.
+ *   - Pass a null pointer. None is taken, not even for a log, benchmarks or a buffer of 0 bytes.
  *   - Pass an array that is too small. Each has the size written in its parameter, which C does not enforce.
- *   - Pass a length beyond the end of the log or of the buffer.
- *   - Pass arrays that overlap one another or the log, or change any of them from another thread during the call.
+ *   - Pass a length beyond the end of the log, of the benchmarks or of the buffer.
+ *   - Pass arrays that overlap one another, the log or the benchmarks, or change any of them from another thread during the call.
  *
  * Times are whole milliseconds (ms). A module is counted from 0. A log has 1 to 64 modules; asked for a module that an accepted log does not have,
  * a function refuses with number 7, list 0 and that module as place, so counting up until then visits every module.
@@ -35,6 +35,8 @@ extern "C" {
 #define TL_LONGEST_REPORT 2494
 /* The longest log. TL_LONGEST_LOG + 1 bytes of a longer one are enough to decide that it is refused. */
 #define TL_LONGEST_LOG 62618
+/* The benchmarks of 512 standards, the most that a log has. Of longer ones a byte more is enough too. */
+#define TL_LONGEST_BENCHMARKS 7168
 #define TL_MOST_MODULES 64
 
 /* Entries of `times`, in ms: the six states of SEMI E10. X(entry, name) */
@@ -70,6 +72,9 @@ enum { TL_TOTAL, TL_UPTIME, TL_PRODUCTION, TL_ACTUAL, TL_EFFECTIVE, TL_QUANTITIE
 enum { TL_AVAILABILITY, TL_OPERATIONAL, TL_RATE, TL_QUALITY, TL_OEE, TL_PRODUCT, TL_FIGURES };
 enum { TL_BASED = 4 };
 
+/* Entries of the `figures` of tl_supplemental, in ten-thousandths. */
+enum { TL_REFERENCE, TL_OPTIMIZED, TL_VALUE_ADDED, TL_TOTAL_EFFECTIVE_UNITS, TL_SUPPLEMENTAL };
+
 /* Entries of `refusal`. */
 enum { TL_NUMBER, TL_LIST, TL_PLACE, TL_REFUSAL };
 
@@ -78,23 +83,25 @@ enum { TL_NUMBER, TL_LIST, TL_PLACE, TL_REFUSAL };
     X(0, "none") \
     X(1, "states") \
     X(2, "standards") \
-    X(3, "units")
+    X(3, "units") \
+    X(4, "benchmarks")
 
-/* What refusal[TL_NUMBER] says. X(number, trade word, ground); 20 and 21 are not in use.
- * refusal[TL_PLACE] is the record's index from 0 in its list, or the module for 11, 16 and a 7 with list 0; it is 0 for 1 to 5, 17, 18 and 22. */
+/* What refusal[TL_NUMBER] says. X(number, trade word, ground)
+ * refusal[TL_PLACE] is the record's or benchmark's index from 0 in its list, or the module for 11, 16 and a 7 with list 0; it is 0 for 1 to 5, 17, 18
+ * and 22. */
 #define TL_REFUSALS(X) \
     X(1, "no header", "under 10 bytes") \
     X(2, "period", "0 or over 366 days (31,622,400,000 ms)") \
     X(3, "modules", "0 or over 64") \
     X(4, "counts", "over 6,000 state records, 512 standards or 2,000 unit records") \
-    X(5, "length", "bytes other than 10 + 6 states + 9 standards + 11 units") \
+    X(5, "length", "bytes other than 10 + 6 states + 9 standards + 11 units; benchmarks: 14 for each standard") \
     X(6, "spare", "a spare bit set") \
     X(7, "stray module", "module at or above the module count") \
     X(8, "stray code", "sub-state code above 23") \
     X(9, "outside", "time or start at or past the period") \
     X(10, "sequence", "time, then module, not above the record before, or not later than its own module's last") \
     X(11, "no opening", "a module whose first record is not at time 0, or that has none") \
-    X(12, "no time", "theoretical time 0") \
+    X(12, "no time", "theoretical time 0, or a time of a benchmark 0") \
     X(13, "twice", "recipe and start both equal to an earlier standard's") \
     X(14, "over-good", "effective units above actual units") \
     X(15, "no standard", "none in force for a unit record") \
@@ -102,6 +109,8 @@ enum { TL_NUMBER, TL_LIST, TL_PLACE, TL_REFUSAL };
     X(17, "too great", "a tool sum above 9,007,199,254,740,991 ms") \
     X(18, "short buffer", "report longer than the buffer, or a record that does not fit at its position") \
     X(19, "unsorted", "out of rising sequence: standards by recipe and start, units by time, module and recipe") \
+    X(20, "above standard", "a time of a benchmark above its standard's theoretical time") \
+    X(21, "over-counted", "total effective units of a benchmark above the effective units judged by its standard") \
     X(22, "too wide", "a value does not fit its field")
 
 enum {
@@ -124,7 +133,9 @@ enum {
     TL_TOO_GREAT,
     TL_SHORT_BUFFER,
     TL_UNSORTED,
-    TL_TOO_WIDE = 22
+    TL_ABOVE_STANDARD,
+    TL_OVER_COUNTED,
+    TL_TOO_WIDE
 };
 
 /*
@@ -167,6 +178,23 @@ uint32_t tl_module_figures(const uint8_t *log, size_t log_len, size_t module, do
 
 /* The figures of the tool, from its summed quantities and not from its modules' figures. Refused where the log is. */
 uint32_t tl_tool_figures(const uint8_t *log, size_t log_len, double figures[6], uint8_t based[4], uint64_t refusal[3]);
+
+/*
+ * The supplemental figures of the tool, in ten-thousandths of its total time, rounded to the nearest, an exact half going up. None is over 10,000.
+ *   reference, optimized, value-added   over all standards, summed: effective units judged by the standard x that time of its benchmark
+ *   total effective units               over all standards, summed: total effective units of its benchmark x the standard's theoretical time
+ * A unit record is judged by the standard in force for its recipe at its time, whichever module it is of.
+ *
+ * The benchmarks are lent as the log is: one for each standard of the log, in the standards' sequence, 14 bytes each. A benchmark is its reference,
+ * optimized and value-added time, in ms for each unit, and its total effective units, 27 bits each, most significant bit first, and then 4 spare bits,
+ * which are 0. A log without standards takes 0 bytes of benchmarks, and its figures are 0.
+ *
+ * Refused where the log is, and then with list 4. First, with place 0, 5: the benchmarks are not 14 bytes for each standard. Then benchmark by
+ * benchmark, with its index as place, 6: a spare bit is set; 12: one of its three times is 0; 20: one of them is above its standard's; 21: its total
+ * effective units are above the effective units judged by its standard. Equal is not above, and total effective units may be 0.
+ */
+uint32_t tl_supplemental(const uint8_t *log, size_t log_len, const uint8_t *benchmarks, size_t benchmarks_len, uint64_t figures[4],
+                         uint64_t refusal[3]);
 
 /*
  * Writing a log. Each of these four adds one record to `buf` at position `at`, in bytes from its front, and fills `next` with the position behind the
