@@ -4,6 +4,7 @@
 #include <inttypes.h>
 #include <stdio.h>
 
+#include "input.h"
 #include "refusal.h"
 #include "tool_log.h"
 
@@ -69,23 +70,10 @@ static int print_tables(const uint8_t *log, size_t length)
 int main(int argc, char **argv)
 {
     static uint8_t log[TL_LONGEST_LOG + 1];
-    size_t length;
-    FILE *f;
 
     if (argc != 2) {
         fprintf(stderr, "usage: dashboard LOG\n");
         return 2;
     }
-    f = fopen(argv[1], "rb");
-    if (!f) {
-        perror(argv[1]);
-        return 2;
-    }
-    length = fread(log, 1, sizeof log, f);
-    if (ferror(f)) {
-        perror(argv[1]);
-        return 2;
-    }
-    fclose(f);
-    return print_tables(log, length);
+    return print_tables(log, read_file(argv[1], log, sizeof log));
 }

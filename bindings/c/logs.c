@@ -35,6 +35,24 @@ struct written write_case_w(uint64_t late)
     return all_added(log, added, at[0]);
 }
 
+struct written write_r1_3(void)
+{
+    static const uint64_t theoretical[4] = {119988, 144000, 180000, 240012};
+    static const uint64_t units[4][3] = {{187200000, 1500, 1500}, {280800000, 600, 600}, {432000000, 800, 800}, {554400000, 500, 480}};
+    struct written log = {{0}, 0};
+    uint64_t at[1] = {0}, refusal[3];
+    uint32_t added;
+
+    added = tl_put_header(log.bytes, sizeof log.bytes, at[0], 604800000, 1, 2, 4, 4, at, refusal);
+    added &= tl_put_state(log.bytes, sizeof log.bytes, at[0], 0, 0, 0, at, refusal);
+    added &= tl_put_state(log.bytes, sizeof log.bytes, at[0], 0, 7, 558000000, at, refusal);
+    for (uint64_t i = 0; i < 4; i++)
+        added &= tl_put_standard(log.bytes, sizeof log.bytes, at[0], i, 0, theoretical[i], at, refusal);
+    for (uint64_t i = 0; i < 4; i++)
+        added &= tl_put_unit(log.bytes, sizeof log.bytes, at[0], 0, i, units[i][0], units[i][1], units[i][2], at, refusal);
+    return all_added(log, added, at[0]);
+}
+
 struct written write_idle(void)
 {
     struct written log = {{0}, 0};

@@ -13,6 +13,9 @@ struct written {
 /* Three modules and a week, SEMI E79 R1-2. `late` is the time of its last unit record: 3,600,000, unless it is to be refused. */
 struct written write_case_w(uint64_t late);
 
+/* One module, four recipes and a week, SEMI E79 R1-3. */
+struct written write_r1_3(void);
+
 /* One module that was not scheduled all day: no uptime, so operational, rate and quality have no base. */
 struct written write_idle(void);
 

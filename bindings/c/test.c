@@ -1,5 +1,5 @@
-/* Tests every function of tool_log.h: the reading ones on case W, a log with no uptime, and bytes that are refused; the writing ones on every width,
- * on every position that matters, and on bytes worked out by hand. */
+/* Tests every function of tool_log.h: the reading ones on case W, a log with no uptime, and bytes that are refused; the supplemental figures on R1-3
+ * and on benchmarks with every fault; the writing ones on every width, on every position that matters, and on bytes worked out by hand. */
 #include <inttypes.h>
 #include <math.h>
 #include <stdio.h>
@@ -45,6 +45,14 @@ static const uint8_t week[100] = {
     0x08, 0x00, 0x00, 0x06, 0xdd, 0xd0, 0x00, 0x12, 0xc0, 0x12, 0xc0,
 };
 
+/* R1-3's benchmarks, one on each line: the bytes of samples/r1-3.benchmarks. */
+static const uint8_t r1_3[56] = {
+    0x00, 0x3a, 0x96, 0x80, 0x05, 0x7e, 0x40, 0x00, 0x46, 0x50, 0x00, 0x00, 0x4e, 0x20,
+    0x00, 0x3a, 0x96, 0x80, 0x04, 0x65, 0x00, 0x00, 0x23, 0x28, 0x00, 0x00, 0x22, 0x60,
+    0x00, 0x3a, 0x96, 0x80, 0x03, 0x4b, 0xc0, 0x00, 0x23, 0x28, 0x00, 0x00, 0x2d, 0x50,
+    0x00, 0x3a, 0x96, 0x80, 0x07, 0x24, 0x20, 0x00, 0x46, 0x50, 0x00, 0x00, 0x1c, 0x20,
+};
+
 static int is(const uint64_t refusal[3], uint64_t number, uint64_t list, uint64_t place)
 {
     return refusal[TL_NUMBER] == number && refusal[TL_LIST] == list && refusal[TL_PLACE] == place;
@@ -70,11 +78,29 @@ static uint8_t *copied(const uint8_t *bytes, size_t length)
     return copy;
 }
 
+/* A call for the supplemental figures on slices of just these lengths. Nothing beside the four figures is written, and on a refusal they are not. */
+static uint32_t supplemental(const uint8_t *log, size_t log_len, const uint8_t *benchmarks, size_t benchmarks_len, uint64_t figures[4],
+                             uint64_t why[3])
+{
+    uint8_t *lent_log = copied(log, log_len), *lent_benchmarks = copied(benchmarks, benchmarks_len);
+    uint64_t lent[6];
+    uint32_t answer;
+
+    memset(lent, 0xa5, sizeof lent);
+    answer = tl_supplemental(lent_log, log_len, lent_benchmarks, benchmarks_len, lent + 1, why);
+    CHECK(all(lent, sizeof *lent, 0xa5) && all(lent + 5, sizeof *lent, 0xa5));
+    CHECK(answer == 1 || (answer == 0 && all(lent, sizeof lent, 0xa5)));
+    memcpy(figures, lent + 1, 4 * sizeof *figures);
+    free(lent_benchmarks);
+    free(lent_log);
+    return answer;
+}
+
 /* Every call on a log that is refused: each says so, gives the reason, and writes nothing else. */
 static void refused(const uint8_t *bytes, size_t length, uint64_t number, uint64_t list, uint64_t place)
 {
     uint8_t *log = copied(bytes, length), based[4], *buf = malloc(TL_LONGEST_REPORT);
-    uint64_t times[6], quantities[5], why[3];
+    uint64_t times[6], quantities[5], four[4], why[3];
     double figures[6];
 
     if (!buf)
@@ -98,6 +124,8 @@ static void refused(const uint8_t *bytes, size_t length, uint64_t number, uint64
     CHECK(tl_tool_state_times(log, length, times, why) == 0 && is(why, number, list, place));
     CHECK(tl_tool_quantities(log, length, quantities, why) == 0 && is(why, number, list, place));
     CHECK(tl_tool_figures(log, length, figures, based, why) == 0 && is(why, number, list, place));
+    for (size_t n = 0; n < 15; n += 7)
+        CHECK(supplemental(log, length, buf, n, four, why) == 0 && is(why, number, list, place));
 
     CHECK(all(buf, TL_LONGEST_REPORT, 0xa5));
     CHECK(all(times, sizeof times, 0xa5) && all(quantities, sizeof quantities, 0xa5));
@@ -244,6 +272,131 @@ static void random_bytes(void)
         else
             CHECK(tl_examine(bytes, length, 0, why) == 0 && why[TL_NUMBER] >= TL_SPARE && why[TL_NUMBER] <= TL_UNSORTED);
     }
+}
+
+/* ---- the supplemental figures */
+
+static void set_field(uint8_t *bytes, unsigned from, unsigned width, uint64_t value)
+{
+    for (unsigned i = from + width; i-- > from; value >>= 1)
+        bytes[i / 8] = (uint8_t)((bytes[i / 8] & ~(0x80 >> i % 8)) | (value & 1) << (7 - i % 8));
+}
+
+/* Makes the times of a benchmark (0 to 2) or its total effective units (3) this value. */
+static void set(uint8_t *benchmarks, unsigned benchmark, unsigned which, uint64_t value)
+{
+    set_field(benchmarks, 112 * benchmark + 27 * which, 27, value);
+}
+
+static void figures_are(const struct written *log, const uint8_t *benchmarks, size_t length, uint64_t a, uint64_t b, uint64_t c, uint64_t d)
+{
+    uint64_t figures[4], why[3] = {9, 9, 9};
+    CHECK(supplemental(log->bytes, log->length, benchmarks, length, figures, why) == 1 && is(why, 0, 0, 0));
+    CHECK(figures[TL_REFERENCE] == a && figures[TL_OPTIMIZED] == b && figures[TL_VALUE_ADDED] == c && figures[TL_TOTAL_EFFECTIVE_UNITS] == d);
+}
+
+static void not_benchmarks(const struct written *log, const uint8_t *benchmarks, size_t length, uint64_t number, uint64_t place)
+{
+    uint64_t figures[4], why[3];
+    CHECK(supplemental(log->bytes, log->length, benchmarks, length, figures, why) == 0 && is(why, number, 4, place));
+}
+
+/* The figures of SEMI E79 R1-3, and each fault of each of its benchmarks: at the bound and past it, and as wide as the field. */
+static void benchmarks_of_r1_3(void)
+{
+    const struct written log = write_r1_3();
+    const uint64_t theoretical[4] = {119988, 144000, 180000, 240012}, effective[4] = {1500, 600, 800, 480}, widest = 0x7ffffff;
+    uint8_t longer[70] = {0}, changed[56];
+
+    figures_are(&log, r1_3, sizeof r1_3, 6706, 4589, 1595, 7733);
+
+    memcpy(longer, r1_3, sizeof r1_3);
+    for (size_t length = 0; length <= sizeof longer; length++) {
+        if (length != sizeof r1_3)
+            not_benchmarks(&log, longer, length, TL_BAD_LENGTH, 0);
+    }
+
+    for (unsigned i = 0; i < 4; i++) {
+        memcpy(changed, r1_3, sizeof r1_3);
+        for (unsigned bit = 0; bit < 4; bit++) {
+            set_field(changed, 112 * i + 108, 4, UINT64_C(1) << bit);
+            not_benchmarks(&log, changed, sizeof changed, TL_SPARE, i);
+        }
+        for (unsigned which = 0; which < 3; which++) {
+            memcpy(changed, r1_3, sizeof r1_3);
+            set(changed, i, which, 0);
+            not_benchmarks(&log, changed, sizeof changed, TL_NO_TIME, i);
+            set(changed, i, which, theoretical[i] + 1);
+            not_benchmarks(&log, changed, sizeof changed, TL_ABOVE_STANDARD, i);
+            set(changed, i, which, widest);
+            not_benchmarks(&log, changed, sizeof changed, TL_ABOVE_STANDARD, i);
+        }
+        memcpy(changed, r1_3, sizeof r1_3);
+        set(changed, i, 3, effective[i] + 1);
+        not_benchmarks(&log, changed, sizeof changed, TL_OVER_COUNTED, i);
+        set(changed, i, 3, widest);
+        not_benchmarks(&log, changed, sizeof changed, TL_OVER_COUNTED, i);
+    }
+
+    /* every bound reached: 525,587,760 ms of 604,800,000, the tool's OEE; then 1 ms for each of 3,380 units, and no total effective units */
+    for (unsigned i = 0; i < 4; i++) {
+        for (unsigned which = 0; which < 3; which++)
+            set(changed, i, which, theoretical[i]);
+        set(changed, i, 3, effective[i]);
+    }
+    figures_are(&log, changed, sizeof changed, 8690, 8690, 8690, 8690);
+    for (unsigned i = 0; i < 4; i++) {
+        set(changed, i, 1, 1);
+        set(changed, i, 3, 0);
+    }
+    figures_are(&log, changed, sizeof changed, 8690, 0, 8690, 0);
+}
+
+/* Several faults at once: those of a benchmark in the sequence of their numbers, and an earlier benchmark ahead of a later one. */
+static void first_fault(void)
+{
+    const struct written log = write_r1_3();
+    uint8_t changed[57] = {0};
+
+    memcpy(changed, r1_3, sizeof r1_3);
+    set_field(changed, 112 * 2 + 108, 4, 1);
+    set(changed, 1, 3, 601);
+    set(changed, 1, 2, 144001);
+    set(changed, 1, 1, 0);
+    set_field(changed, 112 * 1 + 108, 4, 8);
+    not_benchmarks(&log, changed, 57, TL_BAD_LENGTH, 0);
+    not_benchmarks(&log, changed, 56, TL_SPARE, 1);
+    set_field(changed, 112 * 1 + 108, 4, 0);
+    not_benchmarks(&log, changed, 56, TL_NO_TIME, 1);
+    set(changed, 1, 1, 72000);
+    not_benchmarks(&log, changed, 56, TL_ABOVE_STANDARD, 1);
+    set(changed, 1, 2, 18000);
+    not_benchmarks(&log, changed, 56, TL_OVER_COUNTED, 1);
+    set(changed, 1, 3, 600);
+    not_benchmarks(&log, changed, 56, TL_SPARE, 2);
+}
+
+/* Case W: 689 effective units of three modules, judged by one standard, of 1,814,400,000 ms. 689 x 90,720 of them are 344.5 ten-thousandths. */
+static void of_all_modules(void)
+{
+    const struct written log = write_case_w(3600000);
+    uint8_t benchmark[14] = {0};
+
+    set(benchmark, 0, 0, 1800000);
+    set(benchmark, 0, 1, 90720);
+    set(benchmark, 0, 2, 90719);
+    set(benchmark, 0, 3, 689);
+    figures_are(&log, benchmark, sizeof benchmark, 6835, 345, 344, 6835);
+    set(benchmark, 0, 3, 690);
+    not_benchmarks(&log, benchmark, sizeof benchmark, TL_OVER_COUNTED, 0);
+}
+
+static void no_standards(void)
+{
+    const struct written log = write_idle();
+    figures_are(&log, r1_3, 0, 0, 0, 0, 0);
+    not_benchmarks(&log, r1_3, 1, TL_BAD_LENGTH, 0);
+    not_benchmarks(&log, r1_3, 14, TL_BAD_LENGTH, 0);
 }
 
 /* ---- writing */
@@ -474,17 +627,17 @@ static void finishing(void)
     CHECK(tl_finish_log(buf, sizeof buf, sizeof buf + 1, why) == 0 && is(why, TL_SHORT_BUFFER, 0, 0));
 }
 
-/* The header's tables: refusals 1 to 19 and 22, and lists and states that count up, so that each is an index. */
+/* The header's tables: refusals from 1 on, and lists and states from 0 on, that count up. */
 static void tables(void)
 {
 #define NUMBER(number, word, ground) number,
 #define ENTRY(entry, name) entry,
     const int numbers[] = {TL_REFUSALS(NUMBER)}, lists[] = {TL_LISTS(ENTRY)}, states[] = {TL_STATES(ENTRY)};
-    CHECK(sizeof numbers / sizeof *numbers == TL_UNSORTED + 1 && sizeof lists / sizeof *lists == 4 && sizeof states / sizeof *states == TL_TIMES);
-    for (int i = 0; i < TL_UNSORTED; i++)
+    CHECK(sizeof numbers / sizeof *numbers == TL_TOO_WIDE && sizeof lists / sizeof *lists == 5 && sizeof states / sizeof *states == TL_TIMES);
+    CHECK(TL_TOO_WIDE == 22);
+    for (int i = 0; i < TL_TOO_WIDE; i++)
         CHECK(numbers[i] == i + 1);
-    CHECK(numbers[TL_UNSORTED] == TL_TOO_WIDE && TL_TOO_WIDE == 22);
-    for (int i = 0; i < 4; i++)
+    for (int i = 0; i < 5; i++)
         CHECK(lists[i] == i);
     for (int i = 0; i < TL_TIMES; i++)
         CHECK(states[i] == i);
@@ -500,6 +653,10 @@ int main(void)
     written();
     case_w();
     no_uptime();
+    benchmarks_of_r1_3();
+    first_fault();
+    of_all_modules();
+    no_standards();
     damaged();
     random_bytes();
     printf("c: %u checks, %u failed\n", checks, failures);
