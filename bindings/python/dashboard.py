@@ -4,6 +4,7 @@ import dataclasses
 import sys
 
 import tool_log
+from reading import read
 
 
 def line(name, cells, width):
@@ -15,8 +16,7 @@ def figure(value):
 
 
 def main():
-    with open(sys.argv[1], "rb") as f:
-        log = f.read(tool_log.LONGEST_LOG + 1)
+    log = read(sys.argv[1], tool_log.LONGEST_LOG)
     try:
         modules = range(tool_log.module_count(log))
     except tool_log.Refused as refused:

@@ -1,4 +1,5 @@
-"""Tests tool_log.py on logs packed here: case W, a log with no uptime, and bytes that are refused; and its writer on what is packed here too."""
+"""Tests tool_log.py on logs packed here: case W, a log with no uptime, and bytes that are refused; the supplemental figures on R1-3 and on benchmarks
+with every fault; and its writer on what is packed here too."""
 
 import enum
 import fractions
@@ -8,7 +9,7 @@ import re
 import unittest
 
 import tool_log
-from tool_log import Figures, Quantities, Refused, StateTimes, Writer, write_log
+from tool_log import Figures, Quantities, Refused, StateTimes, Supplemental, Writer, pack_benchmarks, supplemental, write_log
 
 ROOT = pathlib.Path(__file__).resolve().parent.parent.parent
 
@@ -60,6 +61,28 @@ def idle():
     return header(86400000, 1, 1, 0, 0) + state(0, 22, 0)
 
 
+# R1-3: recipes A to D.
+THEORETICAL = (119988, 144000, 180000, 240012)
+EFFECTIVE = (1500, 600, 800, 480)
+BENCHMARKS = ((119988, 90000, 36000, 1250), (119988, 72000, 18000, 550), (119988, 54000, 18000, 725), (119988, 117000, 36000, 450))
+
+
+def r1_3():
+    units = ((187200000, 1500), (280800000, 600), (432000000, 800), (554400000, 500))
+    records = [state(0, 0, 0), state(0, 7, 558000000)]
+    records += [standard(recipe, 0, theoretical) for recipe, theoretical in enumerate(THEORETICAL)]
+    records += [unit(0, recipe, time, actual, EFFECTIVE[recipe]) for recipe, (time, actual) in enumerate(units)]
+    return header(604800000, 1, 2, 4, 4) + b"".join(records)
+
+
+def benchmark(*values, spare=0):
+    return packed(*((value, 27) for value in values), (spare, 4))
+
+
+def benchmarks(rows):
+    return b"".join(benchmark(*row) for row in rows)
+
+
 CALLS = (
     tool_log.examine,
     tool_log.report,
@@ -71,6 +94,9 @@ CALLS = (
     lambda log: tool_log.module_state_times(log, 1),
     lambda log: tool_log.module_quantities(log, 1),
     lambda log: tool_log.module_figures(log, 1),
+    lambda log: supplemental(log, b""),
+    lambda log: supplemental(log, b"\xa5" * 7),
+    lambda log: supplemental(log, b"\xa5" * 14),
 )
 
 
@@ -155,6 +181,7 @@ class Calls(Case):
         self.assertEqual(rows, tool_log.REFUSALS)
         self.assertIn(f"TL_LONGEST_REPORT {tool_log.LONGEST_REPORT}\n", header)
         self.assertIn(f"TL_LONGEST_LOG {tool_log.LONGEST_LOG}\n", header)
+        self.assertIn(f"TL_LONGEST_BENCHMARKS {tool_log.LONGEST_BENCHMARKS}\n", header)
 
     def test_random_bytes(self):
         # The grounds 1 to 5 are worked out here from the header, which hardly any of these outlives.
@@ -175,6 +202,109 @@ class Calls(Case):
                 self.turned_back(log, 5)
             else:
                 self.assertRaises(Refused, tool_log.examine, log, 0)
+
+
+def changed(i, which, value):
+    """R1-3's benchmarks with one number another."""
+    rows = [list(row) for row in BENCHMARKS]
+    rows[i][which] = value
+    return benchmarks(rows)
+
+
+class Supplements(Case):
+    def turned_back(self, number, place, lent, log=r1_3()):
+        return self.refused(number, 4, place, supplemental, log, lent)
+
+    def test_r1_3(self):
+        lent = benchmarks(BENCHMARKS)
+        self.assertEqual(supplemental(r1_3(), lent), Supplemental(6706, 4589, 1595, 7733))
+        self.assertEqual(supplemental(bytearray(r1_3()), memoryview(lent)), Supplemental(6706, 4589, 1595, 7733))
+
+    def test_bounds(self):
+        rows = [(theoretical, theoretical, theoretical, effective) for theoretical, effective in zip(THEORETICAL, EFFECTIVE)]
+        self.assertEqual(supplemental(r1_3(), benchmarks(rows)), Supplemental(8690, 8690, 8690, 8690))
+        rows = [(theoretical, 1, 1, 0) for theoretical in THEORETICAL]
+        self.assertEqual(supplemental(r1_3(), benchmarks(rows)), Supplemental(8690, 0, 0, 0))
+
+    def test_all_modules(self):
+        # 689 effective units judged by one standard, of 1,814,400,000 ms: 689 x 90,720 are 344.5 ten-thousandths.
+        self.assertEqual(supplemental(case_w(), benchmark(1800000, 90720, 90719, 689)), Supplemental(6835, 345, 344, 6835))
+        self.turned_back(21, 0, benchmark(1800000, 90720, 90719, 690), case_w())
+
+    def test_revisions(self):
+        # The standards judge 3 effective units; 2 of each module and 5 from the revision's start on; and 6. With 20,000 ms a figure is half its sum.
+        log = write_log(10000, 2, [(0, 0, 0), (1, 0, 0)], [(3, 0, 1000), (3, 4000, 500), (7, 0, 250)],
+                        [(0, 3, 3999, 3, 3), (0, 3, 4000, 2, 2), (1, 3, 4000, 2, 2), (0, 3, 9000, 5, 5), (1, 7, 9000, 7, 6)])
+        rows = [(1000, 500, 10, 2), (400, 300, 20, 9), (200, 1, 30, 0)]
+        sums = (3 * 1000 + 9 * 400 + 6 * 200, 3 * 500 + 9 * 300 + 6 * 1, 3 * 10 + 9 * 20 + 6 * 30, 2 * 1000 + 9 * 500)
+        self.assertEqual(supplemental(log, benchmarks(rows)), Supplemental(*(total // 2 for total in sums)))
+        for place, judged in enumerate((3, 9, 6)):
+            more = [*rows[:place], (*rows[place][:3], judged + 1), *rows[place + 1 :]]
+            self.turned_back(21, place, benchmarks(more), log)
+
+    def test_no_standards(self):
+        self.assertEqual(supplemental(idle(), b""), Supplemental(0, 0, 0, 0))
+        self.turned_back(5, 0, b"\0" * 14, idle())
+
+    def test_faults(self):
+        longer = benchmarks(BENCHMARKS) + b"\0" * 14
+        for length in range(71):
+            if length != 56:
+                self.turned_back(5, 0, longer[:length])
+        for i in range(4):
+            for spare in range(1, 16):
+                lent = bytearray(benchmarks(BENCHMARKS))
+                lent[14 * i + 13] |= spare
+                self.turned_back(6, i, lent)
+            for which in range(3):
+                self.turned_back(12, i, changed(i, which, 0))
+                supplemental(r1_3(), changed(i, which, THEORETICAL[i]))
+                self.turned_back(20, i, changed(i, which, THEORETICAL[i] + 1))
+                self.turned_back(20, i, changed(i, which, 2**27 - 1))
+            for units in (0, EFFECTIVE[i]):
+                supplemental(r1_3(), changed(i, 3, units))
+            for units in (EFFECTIVE[i] + 1, 2**27 - 1):
+                self.turned_back(21, i, changed(i, 3, units))
+
+    def test_first_fault(self):
+        def first(number, place, *row, spare=0):
+            self.turned_back(number, place, benchmark(*BENCHMARKS[0]) + benchmark(*row, spare=spare) + b"\xff" * 14 + benchmark(*BENCHMARKS[3]))
+
+        first(6, 1, 0, 144001, 18000, 601, spare=8)
+        first(12, 1, 0, 144001, 18000, 601)
+        first(20, 1, 119988, 144001, 18000, 601)
+        first(21, 1, 119988, 72000, 18000, 601)
+        first(6, 2, *BENCHMARKS[1])
+
+    def test_words(self):
+        refused = self.turned_back(5, 0, b"")
+        self.assertEqual(
+            str(refused),
+            "refused: 5 length: bytes other than 10 + 6 states + 9 standards + 11 units; benchmarks: 14 for each standard (the benchmarks)",
+        )
+        refused = self.turned_back(12, 0, bytes(56))
+        self.assertEqual(str(refused), "refused: 12 no time: theoretical time 0, or a time of a benchmark 0 (benchmark 0)")
+
+    def test_packing(self):
+        self.assertEqual(pack_benchmarks(BENCHMARKS), benchmarks(BENCHMARKS))
+        self.assertEqual(pack_benchmarks(map(list, BENCHMARKS)), benchmarks(BENCHMARKS))
+        self.assertEqual(pack_benchmarks([]), b"")
+        source = random.Random(20261117)
+        rows = [tuple(source.choice((0, 2**27 - 1, source.getrandbits(27))) for _ in range(4)) for _ in range(512)]
+        self.assertEqual(pack_benchmarks(rows), benchmarks(rows))
+        self.assertEqual(len(pack_benchmarks(rows)), tool_log.LONGEST_BENCHMARKS)
+
+    def test_not_packed(self):
+        names = ("reference", "optimized", "value_added", "total_effective_units")
+        for i, name in enumerate(names):
+            for value in (2**27, 2**64, -1):
+                with self.assertRaisesRegex(ValueError, f"^{name} is from 0 to 2\\*\\*27 - 1, not {value}$"):
+                    pack_benchmarks([BENCHMARKS[0], (*BENCHMARKS[1][:i], value, *BENCHMARKS[1][i + 1 :])])
+            for value in (1.0, "1", None, True):
+                with self.assertRaisesRegex(TypeError, f"^{name} is an int, not {type(value).__name__}"):
+                    pack_benchmarks([(*BENCHMARKS[1][:i], value, *BENCHMARKS[1][i + 1 :])])
+        for row in ((1, 2, 3), (1, 2, 3, 4, 5)):
+            self.assertRaises(ValueError, pack_benchmarks, [row])
 
 
 # The adding methods by the list of their records: name, widths, and the packing of this file.

@@ -1,7 +1,8 @@
-"""The packed log of a semiconductor tool, answered: state times, the quantities and efficiencies of SEMI E79, and the shift report; and written.
+"""The packed log of a semiconductor tool, answered: state times, the quantities, efficiencies and supplemental figures of SEMI E79, and the shift
+report; and written.
 
-A log is any bytes-like object. Each call answers a dataclass, text or bytes, or raises Refused. Times are whole milliseconds. A module is counted
-from 0. write_log makes a log of its records, and Writer makes it record by record.
+A log, and its benchmarks, are any bytes-like object. Each call answers a dataclass, text or bytes, or raises Refused. Times are whole milliseconds.
+A module is counted from 0. write_log makes a log of its records, Writer makes it record by record, and pack_benchmarks makes benchmarks.
 The shared object libtool_log.so stands beside this file; the environment's TOOL_LOG_LIBRARY names another.
 """
 
@@ -13,9 +14,10 @@ from typing import Optional
 
 LONGEST_REPORT = 2494
 LONGEST_LOG = 62618
+LONGEST_BENCHMARKS = 7168
 
-# Which list a refusal's record stands in.
-LISTS = ("none", "states", "standards", "units")
+# Which list a refusal's record or benchmark stands in.
+LISTS = ("none", "states", "standards", "units", "benchmarks")
 
 # Number: (trade word, ground).
 REFUSALS = {
@@ -23,14 +25,14 @@ REFUSALS = {
     2: ("period", "0 or over 366 days (31,622,400,000 ms)"),
     3: ("modules", "0 or over 64"),
     4: ("counts", "over 6,000 state records, 512 standards or 2,000 unit records"),
-    5: ("length", "bytes other than 10 + 6 states + 9 standards + 11 units"),
+    5: ("length", "bytes other than 10 + 6 states + 9 standards + 11 units; benchmarks: 14 for each standard"),
     6: ("spare", "a spare bit set"),
     7: ("stray module", "module at or above the module count"),
     8: ("stray code", "sub-state code above 23"),
     9: ("outside", "time or start at or past the period"),
     10: ("sequence", "time, then module, not above the record before, or not later than its own module's last"),
     11: ("no opening", "a module whose first record is not at time 0, or that has none"),
-    12: ("no time", "theoretical time 0"),
+    12: ("no time", "theoretical time 0, or a time of a benchmark 0"),
     13: ("twice", "recipe and start both equal to an earlier standard's"),
     14: ("over-good", "effective units above actual units"),
     15: ("no standard", "none in force for a unit record"),
@@ -38,15 +40,18 @@ REFUSALS = {
     17: ("too great", "a tool sum above 9,007,199,254,740,991 ms"),
     18: ("short buffer", "report longer than the buffer, or a record that does not fit at its position"),
     19: ("unsorted", "out of rising sequence: standards by recipe and start, units by time, module and recipe"),
+    20: ("above standard", "a time of a benchmark above its standard's theoretical time"),
+    21: ("over-counted", "total effective units of a benchmark above the effective units judged by its standard"),
     22: ("too wide", "a value does not fit its field"),
 }
 
 
 class Refused(Exception):
-    """A log or a record turned back: its number (1 to 19, and 22), list (0 none, 1 states, 2 standards, 3 units), place, and the words for them.
+    """A log, a benchmark or a record turned back: its number (1 to 22), list (0 none, 1 states, 2 standards, 3 units, 4 benchmarks), place, and the
+    words for them.
 
-    The place is the record's index from 0, or the module for 11, 16 and a 7 with list 0. It is 0 for 1 to 5, 17, 18 and 22, whichever record a
-    22 is about; its list is 0 for the header.
+    The place is the record's or benchmark's index from 0, or the module for 11, 16 and a 7 with list 0. It is 0 for 1 to 5, 17, 18 and 22, whichever
+    record a 22 is about; its list is 0 for the header.
     """
 
     def __init__(self, number: int, list: int, place: int):
@@ -56,8 +61,13 @@ class Refused(Exception):
         self.word, self.ground = REFUSALS[number]
         super().__init__(number, list, place)
 
+    def _whereabouts(self) -> str:
+        if LISTS[self.list] != "benchmarks":
+            return f"list {LISTS[self.list]}, place {self.place}"
+        return "the benchmarks" if self.number == 5 else f"benchmark {self.place}"
+
     def __str__(self) -> str:
-        return f"refused: {self.number} {self.word}: {self.ground} (list {LISTS[self.list]}, place {self.place})"
+        return f"refused: {self.number} {self.word}: {self.ground} ({self._whereabouts()})"
 
 
 @dataclass(frozen=True)
@@ -95,11 +105,21 @@ class Figures:
     product: float
 
 
+@dataclass(frozen=True)
+class Supplemental:
+    """The supplemental figures of the tool, in ten-thousandths of its total time."""
+
+    reference: int
+    optimized: int
+    value_added: int
+    total_effective_units: int
+
+
 # ---- the C functions
 
 _u32, _u64, _size = ctypes.c_uint32, ctypes.c_uint64, ctypes.c_size_t
 _Times, _Quantities, _Refusal = ctypes.c_uint64 * 6, ctypes.c_uint64 * 5, ctypes.c_uint64 * 3
-_Figures, _Based, _Next = ctypes.c_double * 6, ctypes.c_uint8 * 4, ctypes.c_uint64 * 1
+_Figures, _Based, _Supplemental, _Next = ctypes.c_double * 6, ctypes.c_uint8 * 4, ctypes.c_uint64 * 4, ctypes.c_uint64 * 1
 
 _library = ctypes.CDLL(os.environ.get("TOOL_LOG_LIBRARY") or str(pathlib.Path(__file__).resolve().parent / "libtool_log.so"))
 
@@ -120,6 +140,7 @@ _module_quantities = _function("tl_module_quantities", _u32, _size, _P(_Quantiti
 _tool_quantities = _function("tl_tool_quantities", _u32, _P(_Quantities), _P(_Refusal))
 _module_figures = _function("tl_module_figures", _u32, _size, _P(_Figures), _P(_Based), _P(_Refusal))
 _tool_figures = _function("tl_tool_figures", _u32, _P(_Figures), _P(_Based), _P(_Refusal))
+_supplemental = _function("tl_supplemental", _u32, ctypes.c_char_p, _size, _P(_Supplemental), _P(_Refusal))
 _put_header = _function("tl_put_header", _u32, _size, _u64, _u64, _u64, _u64, _u64, _P(_Next), _P(_Refusal))
 _put_state = _function("tl_put_state", _u32, _size, _u64, _u64, _u64, _P(_Next), _P(_Refusal))
 _put_standard = _function("tl_put_standard", _u32, _size, _u64, _u64, _u64, _P(_Next), _P(_Refusal))
@@ -137,6 +158,13 @@ def _module(module: int) -> int:
     if not 0 <= module < 1 << 64:
         raise ValueError(f"a module is from 0 to 2**64 - 1, not {module}")
     return module
+
+
+def _int(name: str, value) -> int:
+    # True and False are ints to Python, and no field's value.
+    if not isinstance(value, int) or isinstance(value, bool):
+        raise TypeError(f"{name} is an int, not {type(value).__name__} {value!r}")
+    return value
 
 
 def _ask(function, log, *arguments) -> None:
@@ -224,14 +252,29 @@ def tool_figures(log) -> Figures:
     return _as_figures(figures, based)
 
 
+def supplemental(log, benchmarks) -> Supplemental:
+    """The supplemental figures of the tool. Benchmarks are 14 bytes for each standard of the log, in the standards' sequence: see pack_benchmarks."""
+    benchmarks, figures = _bytes(benchmarks), _Supplemental()
+    _ask(_supplemental, log, benchmarks, len(benchmarks), ctypes.byref(figures))
+    return Supplemental(*figures)
+
+
+def _benchmark(**values) -> bytes:
+    bits = 0
+    for name, value in values.items():
+        if not 0 <= _int(name, value) < 1 << 27:
+            raise ValueError(f"{name} is from 0 to 2**27 - 1, not {value}")
+        bits = bits << 27 | value
+    return (bits << 4).to_bytes(14, "big")
+
+
+def pack_benchmarks(rows) -> bytes:
+    """Benchmarks of their numbers, a row (reference, optimized, value_added, total_effective_units) for each; the three times are in ms a unit.
+    A number that does not fit 27 bits is a ValueError, and one that is no int a TypeError. What the numbers mean is tested by supplemental alone."""
+    return b"".join(_benchmark(reference=r, optimized=o, value_added=v, total_effective_units=t) for r, o, v, t in rows)
+
+
 # ---- what a controller calls
-
-
-def _int(name: str, value) -> int:
-    # True and False are ints to Python, and no field's value.
-    if not isinstance(value, int) or isinstance(value, bool):
-        raise TypeError(f"{name} is an int, not {type(value).__name__} {value!r}")
-    return value
 
 
 class Writer:
