@@ -1,7 +1,9 @@
 //! A dashboard's table from a log: dashboard LOG. Exit status: 0 answered, 1 refused, 2 no log.
 
-use std::{env, fs::File, io, io::Read, process::exit};
-use tool_log::{Efficiency, Figures, Refusal, StateTimes};
+mod shared;
+
+use std::process::exit;
+use tool_log::{Efficiency, Figures, Refusal, StateTimes, LONGEST_LOG};
 
 fn line(name: &str, cells: &[String], width: usize) {
     print!("{name:>6}");
@@ -49,21 +51,8 @@ fn tables(log: &[u8]) -> Result<(), Refusal> {
     Ok(())
 }
 
-fn read(path: &str) -> io::Result<Vec<u8>> {
-    let mut log = Vec::new();
-    File::open(path)?.take(tool_log::LONGEST_LOG as u64 + 1).read_to_end(&mut log)?;
-    Ok(log)
-}
-
 fn main() {
-    let path = env::args().nth(1).unwrap_or_else(|| {
-        eprintln!("usage: dashboard LOG");
-        exit(2)
-    });
-    let log = read(&path).unwrap_or_else(|e| {
-        eprintln!("{path}: {e}");
-        exit(2)
-    });
+    let log = shared::argument(1, LONGEST_LOG, "dashboard LOG");
     if let Err(refusal) = tables(&log) {
         println!("{refusal}");
         exit(1);

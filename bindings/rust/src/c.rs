@@ -17,6 +17,14 @@ extern "C" {
         refusal: *mut [u64; 3],
     ) -> u32;
     pub fn tl_tool_figures(log: *const u8, log_len: usize, figures: *mut [f64; 6], based: *mut [u8; 4], refusal: *mut [u64; 3]) -> u32;
+    pub fn tl_supplemental(
+        log: *const u8,
+        log_len: usize,
+        benchmarks: *const u8,
+        benchmarks_len: usize,
+        figures: *mut [u64; 4],
+        refusal: *mut [u64; 3],
+    ) -> u32;
     pub fn tl_put_header(
         buf: *mut u8,
         buf_len: usize,

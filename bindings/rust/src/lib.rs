@@ -1,6 +1,7 @@
-//! The packed log of a semiconductor tool, answered: state times, the quantities and efficiencies of SEMI E79, and the shift report; and written.
+//! The packed log of a semiconductor tool, answered: state times, the quantities, efficiencies and supplemental figures of SEMI E79, and the shift
+//! report; and written.
 //!
-//! Every function takes any bytes as a log, and answers or refuses. Times are whole milliseconds. A module is counted from 0. A [`Writer`] makes a
+//! Every function takes any bytes as a log, or as benchmarks, and answers or refuses. Times are whole milliseconds. A module is counted from 0. A [`Writer`] makes a
 //! log record by record.
 
 pub mod c;
@@ -11,8 +12,10 @@ use std::fmt;
 pub const LONGEST_REPORT: usize = 2494;
 /// The longest log. One byte more of a longer one is enough to decide that it is refused.
 pub const LONGEST_LOG: usize = 62618;
+/// The benchmarks of 512 standards, the most that a log has. Of longer ones a byte more is enough too.
+pub const LONGEST_BENCHMARKS: usize = 7168;
 
-/// Why a log or a record is turned back. The numbers are those of the refused line.
+/// Why a log, a benchmark or a record is turned back. The numbers are those of the refused line.
 #[derive(Clone, Copy, Debug, PartialEq, Eq, Hash)]
 pub enum Ground {
     NoHeader = 1,
@@ -34,25 +37,27 @@ pub enum Ground {
     TooGreat,
     ShortBuffer,
     Unsorted,
-    TooWide = 22,
+    AboveStandard,
+    OverCounted,
+    TooWide,
 }
 
 use Ground::*;
 
-/// Each ground with its trade word and what it says, by number. Numbers are left out in between, so a number is no index.
-pub const GROUNDS: [(Ground, &str, &str); 20] = [
+/// Each ground with its trade word and what it says, by number.
+pub const GROUNDS: [(Ground, &str, &str); 22] = [
     (NoHeader, "no header", "under 10 bytes"),
     (Period, "period", "0 or over 366 days (31,622,400,000 ms)"),
     (Modules, "modules", "0 or over 64"),
     (Counts, "counts", "over 6,000 state records, 512 standards or 2,000 unit records"),
-    (Length, "length", "bytes other than 10 + 6 states + 9 standards + 11 units"),
+    (Length, "length", "bytes other than 10 + 6 states + 9 standards + 11 units; benchmarks: 14 for each standard"),
     (Spare, "spare", "a spare bit set"),
     (StrayModule, "stray module", "module at or above the module count"),
     (StrayCode, "stray code", "sub-state code above 23"),
     (Outside, "outside", "time or start at or past the period"),
     (Sequence, "sequence", "time, then module, not above the record before, or not later than its own module's last"),
     (NoOpening, "no opening", "a module whose first record is not at time 0, or that has none"),
-    (NoTime, "no time", "theoretical time 0"),
+    (NoTime, "no time", "theoretical time 0, or a time of a benchmark 0"),
     (Twice, "twice", "recipe and start both equal to an earlier standard's"),
     (OverGood, "over-good", "effective units above actual units"),
     (NoStandard, "no standard", "none in force for a unit record"),
@@ -60,20 +65,23 @@ pub const GROUNDS: [(Ground, &str, &str); 20] = [
     (TooGreat, "too great", "a tool sum above 9,007,199,254,740,991 ms"),
     (ShortBuffer, "short buffer", "report longer than the buffer, or a record that does not fit at its position"),
     (Unsorted, "unsorted", "out of rising sequence: standards by recipe and start, units by time, module and recipe"),
+    (AboveStandard, "above standard", "a time of a benchmark above its standard's theoretical time"),
+    (OverCounted, "over-counted", "total effective units of a benchmark above the effective units judged by its standard"),
     (TooWide, "too wide", "a value does not fit its field"),
 ];
 
-/// The list that a refused record stands in. The header is in none.
+/// The list that a refused record or benchmark stands in. The header is in none.
 #[derive(Clone, Copy, Debug, PartialEq, Eq, Hash)]
 pub enum List {
     None,
     States,
     Standards,
     Units,
+    Benchmarks,
 }
 
-/// A log or a record turned back: why, in which list, and at which place: the record's index from 0, or the module for `NoOpening`, `TooFast`, and a
-/// `StrayModule` with no list. For `TooWide` the place is 0, whichever record it is about.
+/// A log, a benchmark or a record turned back: why, in which list, and at which place: the record's or benchmark's index from 0, or the module for
+/// `NoOpening`, `TooFast`, and a `StrayModule` with no list. For `TooWide` the place is 0, whichever record it is about.
 #[derive(Clone, Copy, Debug, PartialEq, Eq, Hash)]
 pub struct Refusal {
     pub ground: Ground,
@@ -88,7 +96,7 @@ fn row(number: u64) -> (Ground, &'static str, &'static str) {
 
 impl Refusal {
     fn new([number, list, place]: [u64; 3]) -> Self {
-        let list = [List::None, List::States, List::Standards, List::Units][list as usize];
+        let list = [List::None, List::States, List::Standards, List::Units, List::Benchmarks][list as usize];
         Refusal { ground: row(number).0, list, place }
     }
 }
@@ -96,13 +104,16 @@ impl Refusal {
 impl fmt::Display for Refusal {
     fn fmt(&self, f: &mut fmt::Formatter) -> fmt::Result {
         let (ground, word, says) = row(self.ground as u64);
+        write!(f, "refused: {} {word}: {says} ", ground as u8)?;
         let list = match self.list {
             List::None => "none",
             List::States => "states",
             List::Standards => "standards",
             List::Units => "units",
+            List::Benchmarks if ground == Length => return write!(f, "(the benchmarks)"),
+            List::Benchmarks => return write!(f, "(benchmark {})", self.place),
         };
-        write!(f, "refused: {} {word}: {says} (list {list}, place {})", ground as u8, self.place)
+        write!(f, "(list {list}, place {})", self.place)
     }
 }
 
@@ -145,6 +156,15 @@ pub struct Figures {
     pub quality: Efficiency,
     pub oee: f64,
     pub product: f64,
+}
+
+/// The supplemental figures of the tool, in ten-thousandths of its total time.
+#[derive(Clone, Copy, Debug, PartialEq, Eq)]
+pub struct Supplemental {
+    pub reference: u64,
+    pub optimized: u64,
+    pub value_added: u64,
+    pub total_effective_units: u64,
 }
 
 // SAFETY, of every call below: the pointers are those of a slice or of an array of the size that the C function has, they do not overlap, and the
@@ -240,6 +260,15 @@ pub fn tool_figures(log: &[u8]) -> Result<Figures, Refusal> {
     let (mut doubles, mut based, mut refusal) = ([0.0; 6], [0; 4], [0; 3]);
     let flag = unsafe { c::tl_tool_figures(log.as_ptr(), log.len(), &mut doubles, &mut based, &mut refusal) };
     figures(flag, doubles, based, refusal)
+}
+
+/// The supplemental figures of the tool. Benchmarks are 14 bytes for each standard of the log, in the standards' sequence: reference, optimized and
+/// value-added time in ms a unit and total effective units, 27 bits each, and 4 spare bits.
+pub fn supplemental(log: &[u8], benchmarks: &[u8]) -> Result<Supplemental, Refusal> {
+    let (mut figures, mut refusal) = ([0; 4], [0; 3]);
+    let flag = unsafe { c::tl_supplemental(log.as_ptr(), log.len(), benchmarks.as_ptr(), benchmarks.len(), &mut figures, &mut refusal) };
+    let [reference, optimized, value_added, total_effective_units] = figures;
+    answered(flag, refusal, Supplemental { reference, optimized, value_added, total_effective_units })
 }
 
 // Where the record ends, or why it was not added. The library's position is within the buffer, so it is a usize.

@@ -1,4 +1,5 @@
-//! Every call on logs packed here: case W, a log with no uptime, and bytes that are refused; and the writing ones on records packed here too.
+//! Every call on logs packed here: case W, a log with no uptime, and bytes that are refused; the supplemental figures on R1-3 and on benchmarks with
+//! every fault; and the writing ones on records packed here too.
 
 use tool_log::*;
 
@@ -40,6 +41,35 @@ fn week() -> Vec<u8> {
     case_w(3600000)
 }
 
+// R1-3's standards, units, and benchmarks: the times and units of recipes A to D.
+const THEORETICAL: [u64; 4] = [119988, 144000, 180000, 240012];
+const UNITS: [(u64, u64, u64); 4] = [(187200000, 1500, 1500), (280800000, 600, 600), (432000000, 800, 800), (554400000, 500, 480)];
+const BENCHMARKS: [[u64; 4]; 4] =
+    [[119988, 90000, 36000, 1250], [119988, 72000, 18000, 550], [119988, 54000, 18000, 725], [119988, 117000, 36000, 450]];
+
+fn r1_3() -> Vec<u8> {
+    let mut log = header(604800000, 1, 2, 4, 4);
+    for (code, time) in [(0, 0), (7, 558000000)] {
+        log.extend(packed(&[(0, 6), (code, 5), (time, 35), (0, 2)]));
+    }
+    for (recipe, theoretical) in (0..).zip(THEORETICAL) {
+        log.extend(packed(&[(recipe, 10), (0, 35), (theoretical, 27)]));
+    }
+    for (recipe, (time, actual, effective)) in (0..).zip(UNITS) {
+        log.extend(packed(&[(0, 6), (recipe, 10), (time, 35), (actual, 16), (effective, 16), (0, 5)]));
+    }
+    log
+}
+
+fn benchmark(values: [u64; 4], spare: u64) -> Vec<u8> {
+    let [reference, optimized, value_added, units] = values;
+    packed(&[(reference, 27), (optimized, 27), (value_added, 27), (units, 27), (spare, 4)])
+}
+
+fn benchmarks(rows: [[u64; 4]; 4]) -> Vec<u8> {
+    rows.map(|row| benchmark(row, 0)).concat()
+}
+
 fn idle() -> Vec<u8> {
     let mut log = header(86400000, 1, 1, 0, 0);
     log.extend(packed(&[(0, 6), (22, 5), (0, 35), (0, 2)]));
@@ -64,6 +94,9 @@ fn turned_back(log: &[u8], ground: Ground, list: List, place: u64) {
     assert_eq!(tool_state_times(log), Err(why));
     assert_eq!(tool_quantities(log), Err(why));
     assert_eq!(tool_figures(log), Err(why));
+    for length in [0, 7, 14] {
+        assert_eq!(supplemental(log, &buf[..length]), Err(why));
+    }
 }
 
 #[test]
@@ -145,6 +178,76 @@ fn a_module_that_is_not_there() {
     }
 }
 
+fn four(reference: u64, optimized: u64, value_added: u64, total_effective_units: u64) -> Result<Supplemental, Refusal> {
+    Ok(Supplemental { reference, optimized, value_added, total_effective_units })
+}
+
+fn not_benchmarks(ground: Ground, place: usize) -> Result<Supplemental, Refusal> {
+    Err(Refusal { ground, list: List::Benchmarks, place: place as u64 })
+}
+
+// The figures that SEMI E79 prints in R1-3; and, with every bound reached, its OEE four times.
+#[test]
+fn supplemental_figures() {
+    assert_eq!(supplemental(&r1_3(), &benchmarks(BENCHMARKS)), four(6706, 4589, 1595, 7733));
+    let bounds = [0, 1, 2, 3].map(|i| [THEORETICAL[i], THEORETICAL[i], THEORETICAL[i], UNITS[i].2]);
+    assert_eq!(supplemental(&r1_3(), &benchmarks(bounds)), four(8690, 8690, 8690, 8690));
+    let least = bounds.map(|[reference, ..]| [reference, 1, 1, 0]);
+    assert_eq!(supplemental(&r1_3(), &benchmarks(least)), four(8690, 0, 0, 0));
+}
+
+// Case W has 689 effective units of three modules, judged by one standard, and 1,814,400,000 ms: 689 x 90,720 are 344.5 ten-thousandths.
+#[test]
+fn supplemental_figures_of_all_modules() {
+    assert_eq!(supplemental(&week(), &benchmark([1800000, 90720, 90719, 689], 0)), four(6835, 345, 344, 6835));
+    assert_eq!(supplemental(&week(), &benchmark([1800000, 90720, 90719, 690], 0)), not_benchmarks(Ground::OverCounted, 0));
+    assert_eq!(supplemental(&idle(), &[]), four(0, 0, 0, 0));
+    assert_eq!(supplemental(&idle(), &[0; 14]), not_benchmarks(Ground::Length, 0));
+}
+
+#[test]
+fn benchmarks_with_a_fault() {
+    let changed = |i: usize, which: usize, value: u64| {
+        let mut rows = BENCHMARKS;
+        rows[i][which] = value;
+        supplemental(&r1_3(), &benchmarks(rows))
+    };
+    let longer = [benchmarks(BENCHMARKS), vec![0; 14]].concat();
+    for length in (0..=70).filter(|&length| length != 56) {
+        assert_eq!(supplemental(&r1_3(), &longer[..length]), not_benchmarks(Ground::Length, 0));
+    }
+    for i in 0..4 {
+        for spare in 1..16 {
+            let mut bytes = benchmarks(BENCHMARKS);
+            bytes[14 * i + 13] |= spare;
+            assert_eq!(supplemental(&r1_3(), &bytes), not_benchmarks(Ground::Spare, i));
+        }
+        for which in 0..3 {
+            assert_eq!(changed(i, which, 0), not_benchmarks(Ground::NoTime, i));
+            assert!(changed(i, which, THEORETICAL[i]).is_ok());
+            assert_eq!(changed(i, which, THEORETICAL[i] + 1), not_benchmarks(Ground::AboveStandard, i));
+            assert_eq!(changed(i, which, greatest(27)), not_benchmarks(Ground::AboveStandard, i));
+        }
+        assert!(changed(i, 3, 0).is_ok() && changed(i, 3, UNITS[i].2).is_ok());
+        assert_eq!(changed(i, 3, UNITS[i].2 + 1), not_benchmarks(Ground::OverCounted, i));
+        assert_eq!(changed(i, 3, greatest(27)), not_benchmarks(Ground::OverCounted, i));
+    }
+}
+
+// The faults of a benchmark come in the sequence of their numbers, and an earlier benchmark ahead of a later one.
+#[test]
+fn the_first_fault() {
+    let first = |row: [u64; 4], spare: u64| {
+        let bytes = [benchmark(BENCHMARKS[0], 0), benchmark(row, spare), benchmark([0; 4], 15), benchmark(BENCHMARKS[3], 0)].concat();
+        supplemental(&r1_3(), &bytes)
+    };
+    assert_eq!(first([0, 144001, 18000, 601], 8), not_benchmarks(Ground::Spare, 1));
+    assert_eq!(first([0, 144001, 18000, 601], 0), not_benchmarks(Ground::NoTime, 1));
+    assert_eq!(first([119988, 144001, 18000, 601], 0), not_benchmarks(Ground::AboveStandard, 1));
+    assert_eq!(first([119988, 72000, 18000, 601], 0), not_benchmarks(Ground::OverCounted, 1));
+    assert_eq!(first(BENCHMARKS[1], 0), not_benchmarks(Ground::Spare, 2));
+}
+
 #[test]
 fn damaged() {
     let log = week();
@@ -162,11 +265,17 @@ fn words() {
     let why = report(&case_w(604800000)).unwrap_err();
     assert_eq!(why.to_string(), "refused: 9 outside: time or start at or past the period (list units, place 2)");
     let numbers: Vec<u8> = GROUNDS.into_iter().map(|row| row.0 as u8).collect();
-    assert_eq!(numbers, (1..=19).chain([22]).collect::<Vec<u8>>());
+    assert_eq!(numbers, (1..=22).collect::<Vec<u8>>());
     for (ground, word, says) in GROUNDS {
         let why = Refusal { ground, list: List::None, place: 0 };
         assert_eq!(why.to_string(), format!("refused: {} {word}: {says} (list none, place 0)", ground as u8));
     }
+    let of_benchmarks = |ground, place| Refusal { ground, list: List::Benchmarks, place }.to_string();
+    assert_eq!(
+        of_benchmarks(Ground::Length, 0),
+        "refused: 5 length: bytes other than 10 + 6 states + 9 standards + 11 units; benchmarks: 14 for each standard (the benchmarks)"
+    );
+    assert_eq!(of_benchmarks(Ground::NoTime, 3), "refused: 12 no time: theoretical time 0, or a time of a benchmark 0 (benchmark 3)");
 }
 
 #[test]
@@ -177,7 +286,9 @@ fn the_header_says_the_same() {
     }
     let rows = header.lines().filter(|line| line.starts_with("    X(") && line.matches('"').count() == 4);
     assert_eq!(rows.count(), GROUNDS.len());
-    assert!(header.contains(&format!("TL_LONGEST_REPORT {LONGEST_REPORT}\n")) && header.contains(&format!("TL_LONGEST_LOG {LONGEST_LOG}\n")));
+    for longest in [format!("REPORT {LONGEST_REPORT}"), format!("LOG {LONGEST_LOG}"), format!("BENCHMARKS {LONGEST_BENCHMARKS}")] {
+        assert!(header.contains(&format!("TL_LONGEST_{longest}\n")));
+    }
 }
 
 // A number's type or a parameter of the header, as Rust writes it.
