@@ -1,13 +1,13 @@
 #!/usr/bin/env python3
-"""Makes the sample logs through the library's writer, beside this script or in another folder: make.py [FOLDER]"""
+"""Makes the sample logs through the library's writer, and benchmarks for them, beside this script or in another folder: make.py [FOLDER]"""
 
 import sys
 from pathlib import Path
 
 sys.path.append(str(Path(__file__).resolve().parent.parent / "bindings" / "python"))
 try:
-    from tool_log import Writer
-except (OSError, AttributeError) as error:  # no shared object, or one without a writer
+    from tool_log import Writer, pack_benchmarks
+except (OSError, AttributeError) as error:  # no shared object, or an older one
     sys.exit(f"{error}\nNo library to write the logs with. First: rt staticlib tool_log_c && bindings/python/build")
 
 SECOND = 1_000
@@ -90,6 +90,16 @@ def r1_2():
     return log(WEEK, 3, by_time(a, b, c), standards, units)
 
 
+def r1_3():
+    """002, R1-3: recipes A to D are 0 to 3."""
+    states, end = in_turn(0, [(REGULAR, 155), (NO_PRODUCT, 13)])
+    assert end == WEEK
+    standards = [(0, 0, hours(0.03333)), (1, 0, hours(0.04)), (2, 0, hours(0.05)), (3, 0, hours(0.06667))]
+    units = [(0, 0, hours(52), 1500, 1500), (0, 1, hours(78), 600, 600),
+             (0, 2, hours(120), 800, 800), (0, 3, hours(154), 500, 480)]
+    return log(WEEK, 1, states, standards, units)
+
+
 def guidebook():
     """003, section 2.5: processes A and B are recipes 0 and 1."""
     states, end = in_turn(0, [
@@ -133,7 +143,7 @@ def wide():
     return log(DAY, 64, by_time(states), standards, units)
 
 
-def longest():
+def longest_records():
     """A leap year of 64 modules with as many records as a log may have. Every 93 hours the modules change, eight at a time; 64 recipes have eight
     revisions each; units come of four modules and two recipes at a time, some at the very start of a revision."""
     year = 366 * DAY
@@ -150,7 +160,11 @@ def longest():
         lot, module = unit // 8, unit // 2 % 64
         actual = 2_500 + 17 * unit % 400 - 10 * module
         units.append((module, recipes[2 * lot % 64 + unit % 2], lot * year // 256, actual, actual - unit % (module + 2)))
-    made = log(year, 64, states, standards, units)
+    return year, 64, states, standards, units
+
+
+def longest():
+    made = log(*longest_records())
     assert len(made) == 62_618
     return made
 
@@ -179,10 +193,36 @@ def shift(period=8 * HOUR, modules=1, states=((0, REGULAR, 0),), standards=((3, 
     return log(period, modules, states, standards, units)
 
 
+# 002, Table R1-2: reference, optimized and value-added hours a unit, and total effective units, of recipes A to D.
+R1_3_BENCHMARKS = [(0.03333, 0.025, 0.01, 1250), (0.03333, 0.02, 0.005, 550), (0.03333, 0.015, 0.005, 725), (0.03333, 0.0325, 0.01, 450)]
+
+
+def benchmarks(rows):
+    """Benchmarks of rows as in 002's table, in hours."""
+    return pack_benchmarks([(hours(reference), hours(optimized), hours(value_added), units) for reference, optimized, value_added, units in rows])
+
+
+def r1_3_benchmarks(place=None, row=None):
+    """R1-3's, or with another row at one place."""
+    return benchmarks(row if i == place else given for i, given in enumerate(R1_3_BENCHMARKS))
+
+
+def longest_benchmarks():
+    """For each of 512 standards its own time, a half and a quarter of it, and all of its effective units."""
+    _, _, _, standards, units = longest_records()
+    judged = [0] * len(standards)
+    for _, recipe, time, _, effective in units:
+        judged[max(i for i, standard in enumerate(standards) if standard[0] == recipe and standard[1] <= time)] += effective
+    made = pack_benchmarks([(time, time // 2, time // 4, effective) for (_, _, time), effective in zip(standards, judged)])
+    assert len(made) == 7_168
+    return made
+
+
 SAMPLES = {
     "case-w": case_w,
     "r1-1": r1_1,
     "r1-2": r1_2,
+    "r1-3": r1_3,
     "guidebook": guidebook,
     "etcher": etcher,
     "wide": wide,
@@ -212,7 +252,19 @@ SAMPLES = {
     "refused-unsorted": lambda: same_shift(units=sorted(SAME_SHIFT_UNITS, key=lambda unit: unit[0])),
 }
 
+BENCHMARKS = {
+    "r1-3": r1_3_benchmarks,
+    "longest": longest_benchmarks,
+    # R1-3's, one for each number of list 4.
+    "refused-benchmark-length": lambda: r1_3_benchmarks()[:-1],
+    "refused-benchmark-spare": lambda: r1_3_benchmarks()[:-1] + bytes([r1_3_benchmarks()[-1] | 1]),
+    "refused-benchmark-no-time": lambda: r1_3_benchmarks(2, (0.03333, 0.015, 0, 725)),
+    "refused-above-standard": lambda: r1_3_benchmarks(1, (0.05, 0.02, 0.005, 550)),
+    "refused-over-counted": lambda: r1_3_benchmarks(3, (0.03333, 0.0325, 0.01, 481)),
+}
+
 if __name__ == "__main__":
     folder = Path(sys.argv[1]) if len(sys.argv) > 1 else Path(__file__).parent
-    for name, make in SAMPLES.items():
-        (folder / f"{name}.log").write_bytes(make())
+    for kind, samples in ("log", SAMPLES), ("benchmarks", BENCHMARKS):
+        for name, make in samples.items():
+            (folder / f"{name}.{kind}").write_bytes(make())
