@@ -1,4 +1,4 @@
-//! A log in the making: records that need not be valid, packed into bytes.
+//! A log in the making: records that need not be valid, packed into bytes; and benchmarks.
 
 use crate::oracle::Log;
 use crate::records::*;
@@ -39,6 +39,19 @@ impl BitWriter {
             }
         }
     }
+}
+
+/// Benchmarks that need not be valid, one behind the other.
+pub fn packed(benchmarks: &[Benchmark]) -> Vec<u8> {
+    let mut writer = BitWriter::default();
+    for benchmark in benchmarks {
+        for time in benchmark.times {
+            writer.put(time, 27);
+        }
+        writer.put(benchmark.total_effective, 27);
+        writer.put(benchmark.spare, 4);
+    }
+    writer.bytes
 }
 
 /// What each list rises by.

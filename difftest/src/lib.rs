@@ -1,6 +1,6 @@
-//! Tests the tool-log library from outside: documents 01 and 02, as far as R-2, in plain Rust,
-//! apart from the library (`oracle`, `writing`), a seeded generator of logs and of runs of calls
-//! that write them, and the comparison with the linked library.
+//! Tests the tool-log library from outside: documents 01 and 02, as far as R-4, in plain Rust,
+//! apart from the library (`oracle`, `writing`, `supplemental`), a seeded generator of logs, of
+//! runs of calls that write them and of benchmarks, and the comparison with the linked library.
 
 pub mod arguments;
 pub mod draft;
@@ -8,6 +8,7 @@ pub mod generator;
 pub mod oracle;
 pub mod prng;
 pub mod records;
+pub mod supplemental;
 pub mod tally;
 pub mod writing;
 

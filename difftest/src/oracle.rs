@@ -252,7 +252,7 @@ pub fn last_in_force(standards: &[Standard], recipe: u64, time: u64) -> Option<S
 }
 
 /// The standard of a tested unit. In the rising sequence the walk answers the one in force.
-fn standard_of(log: &Log, unit: &UnitRecord) -> Standard {
+pub fn standard_of(log: &Log, unit: &UnitRecord) -> Standard {
     let standard = in_force(&log.standards, unit.recipe, unit.time);
     assert_eq!(
         last_in_force(&log.standards, unit.recipe, unit.time),
@@ -526,7 +526,11 @@ fn printed(numerator: u64, denominator: u64) -> String {
     if denominator == 0 {
         return String::from("-");
     }
-    let figure = ten_thousandths(numerator, denominator);
+    four_places(ten_thousandths(numerator, denominator))
+}
+
+/// Ten-thousandths as they are printed.
+pub fn four_places(figure: u64) -> String {
     format!("{}.{:04}", figure / 10_000, figure % 10_000)
 }
 

@@ -1,4 +1,4 @@
-//! The header and the three kinds of record of a log, as whole numbers.
+//! The header and the three kinds of record of a log, and the benchmark of a standard, as whole numbers.
 
 /// Bounds of document 01.
 pub const LONGEST_PERIOD: u64 = 31_622_400_000;
@@ -12,6 +12,7 @@ pub const HEADER_BYTES: u64 = 10;
 pub const STATE_BYTES: u64 = 6;
 pub const STANDARD_BYTES: u64 = 9;
 pub const UNIT_BYTES: u64 = 11;
+pub const BENCHMARK_BYTES: u64 = 14;
 
 #[derive(Clone, Copy, Debug, PartialEq, Eq)]
 pub struct Header {
@@ -47,6 +48,15 @@ pub struct UnitRecord {
     pub time: u64,
     pub actual: u64,
     pub effective: u64,
+    pub spare: u64,
+}
+
+/// What a standard is measured against.
+#[derive(Clone, Copy, Debug, PartialEq, Eq)]
+pub struct Benchmark {
+    /// Reference, optimized and value-added time of a unit.
+    pub times: [u64; 3],
+    pub total_effective: u64,
     pub spare: u64,
 }
 
@@ -131,6 +141,7 @@ pub const NO_LIST: u64 = 0;
 pub const STATES: u64 = 1;
 pub const STANDARDS: u64 = 2;
 pub const UNITS: u64 = 3;
+pub const BENCHMARKS: u64 = 4;
 
 impl Refusal {
     pub fn new(number: u64, list: u64, place: usize) -> Refusal {
@@ -153,6 +164,8 @@ impl Refusal {
             (STATES, _) => Some(format!("record {place} of the states")),
             (STANDARDS, _) => Some(format!("record {place} of the standards")),
             (UNITS, _) => Some(format!("record {place} of the units")),
+            (BENCHMARKS, 5) => Some(String::from("the benchmarks")),
+            (BENCHMARKS, _) => Some(format!("benchmark {place}")),
             (_, 7 | 11 | 16) => Some(format!("module {place}")),
             _ => None,
         }
