@@ -1,6 +1,7 @@
 //! Counts what a run met, so that a generator that misses a refusal shows.
 
 use crate::records::*;
+use crate::supplemental::Supplemental;
 use std::collections::BTreeMap;
 use std::fmt;
 
@@ -39,6 +40,14 @@ impl Verdicts {
             .collect()
     }
 
+    /// Those of number and list that were not met.
+    fn never_met(&self, due: &[(u64, u64)]) -> Vec<String> {
+        due.iter()
+            .filter(|(number, list)| !self.met(*number, *list))
+            .map(|(number, list)| format!("{number} list {list}"))
+            .collect()
+    }
+
     fn summary(&self, what: &str) -> String {
         let refused: u64 = self.refused.values().sum();
         format!(
@@ -53,6 +62,9 @@ impl Verdicts {
 pub struct Tally {
     pub logs: Verdicts,
     pub short_buffers: u64,
+    /// Of the calls for supplemental figures.
+    pub supplemental: Verdicts,
+    above_zero: u64,
     /// Of the calls that write.
     pub adding: Verdicts,
     pub finishing: Verdicts,
@@ -61,6 +73,12 @@ pub struct Tally {
 impl Tally {
     pub fn count<T>(&mut self, verdict: &Result<T, Refusal>) {
         self.logs.count(verdict);
+    }
+
+    pub fn count_supplemental(&mut self, answer: &Result<Supplemental, Refusal>) {
+        self.supplemental.count(answer);
+        let above_zero = answer.is_ok_and(|figures| !figures.contains(&0));
+        self.above_zero += u64::from(above_zero);
     }
 
     /// The numbers of the reader that no log met.
@@ -78,15 +96,27 @@ impl Tally {
         self.never_met().into_iter().chain(short).collect()
     }
 
+    /// What no benchmarks met: the numbers of list 4, a refusal of the log, and four figures above 0.
+    pub fn never_met_in_supplemental(&self) -> Vec<String> {
+        let numbers = [5, 6, 12, 20, 21].map(|number| (number, BENCHMARKS));
+        let of_log = (self.refused_by_log() == 0).then(|| String::from("a refusal of the log"));
+        let above_zero = (self.above_zero == 0).then(|| String::from("figures above 0"));
+        let missed = self.supplemental.never_met(&numbers).into_iter();
+        missed.chain(of_log).chain(above_zero).collect()
+    }
+
     /// What no adding call met: 22 of each list, 18, and acceptance.
     pub fn never_met_in_adding(&self) -> Vec<String> {
-        let too_wide = [NO_LIST, STATES, STANDARDS, UNITS].map(|list| (22, list));
-        let due = too_wide.into_iter().chain([(18, NO_LIST)]);
+        let due = [
+            (22, NO_LIST),
+            (22, STATES),
+            (22, STANDARDS),
+            (22, UNITS),
+            (18, NO_LIST),
+        ];
         let accepted = (self.adding.accepted == 0).then(|| String::from("accepted"));
-        due.filter(|(number, list)| !self.adding.met(*number, *list))
-            .map(|(number, list)| format!("{number} list {list}"))
-            .chain(accepted)
-            .collect()
+        let missed = self.adding.never_met(&due).into_iter();
+        missed.chain(accepted).collect()
     }
 
     /// What no finishing call met: the numbers of the reader, 18, and acceptance.
@@ -99,6 +129,25 @@ impl Tally {
             .map(|number| number.to_string())
             .chain(accepted)
             .collect()
+    }
+
+    /// Of the calls for supplemental figures, those that the log itself was refused for.
+    fn refused_by_log(&self) -> u64 {
+        let refused = self.supplemental.refused.iter();
+        let by_log = refused.filter(|((_, list), _)| *list != BENCHMARKS);
+        by_log.map(|(_, count)| count).sum()
+    }
+
+    /// The calls for supplemental figures.
+    pub fn supplemental(&self) -> String {
+        let mut text = self.supplemental.summary("slices of benchmarks") + "\n";
+        text += &format!("refused by the log: {} slices\n", self.refused_by_log());
+        for ((number, list), count) in &self.supplemental.refused {
+            if *list == BENCHMARKS {
+                text += &format!("refused {number} list {list}: {count} slices\n");
+            }
+        }
+        text + &format!("all four figures above 0: {} slices\n", self.above_zero)
     }
 
     /// The calls that write.

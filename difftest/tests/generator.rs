@@ -17,11 +17,12 @@ fn the_oracle_answers_what_the_generator_expects() {
         let made = make(3, index);
         let verdict = account(&made.bytes);
         tally.count(&verdict);
-        match made.expected {
-            Expected::Accepted => assert!(verdict.is_ok(), "log {index}: {:?}", verdict.err()),
-            Expected::Refused(refusal) => assert_eq!(verdict.err(), Some(refusal), "log {index}"),
-            Expected::Unknown => {}
-        }
+        let expected = made.expected;
+        assert!(
+            expected.agrees(&verdict),
+            "log {index}: {expected:?}, {:?}",
+            verdict.err()
+        );
     }
     assert_eq!(tally.never_met(), []);
 }
@@ -122,7 +123,6 @@ fn every_breach_is_met() {
     assert!(missed.is_empty(), "never made: {missed:?}");
 }
 
-/// R-1's promise: the records of an accepted log in another sequence are no accepted log.
 /// Why a unit has no standard: its recipe has none, or none that has begun; and which others have, those ahead of the recipe's in the list and those behind.
 fn lack(log: &Log, unit: &UnitRecord) -> String {
     let own = |standard: &Standard| standard.recipe == unit.recipe;
@@ -160,6 +160,7 @@ fn every_lack_of_a_standard_is_met() {
     assert_eq!(met, due);
 }
 
+/// R-1's promise: the records of an accepted log in another sequence are no accepted log.
 #[test]
 fn the_same_records_are_the_same_bytes() {
     let mut other_bytes = 0;

@@ -4,8 +4,9 @@
 //! survey SEED COUNT
 
 use difftest::arguments::two_numbers;
-use difftest::generator::{make, Expected};
+use difftest::generator::{benchmarks, make};
 use difftest::oracle::account;
+use difftest::supplemental::{answer, Judged};
 use difftest::tally::Tally;
 use std::process::ExitCode;
 
@@ -24,25 +25,32 @@ fn main() -> ExitCode {
         if verdict.is_ok() {
             accepted_bytes = accepted_bytes.max(made.bytes.len());
         }
-        let agrees = match made.expected {
-            Expected::Accepted => verdict.is_ok(),
-            Expected::Refused(refusal) => verdict.as_ref().err() == Some(&refusal),
-            Expected::Unknown => true,
-        };
-        if !agrees {
+        if !made.expected.agrees(&verdict) {
             unexpected += 1;
             println!(
                 "log {index}: expected {:?}, judged {:?}",
                 made.expected,
-                verdict.err()
+                verdict.as_ref().err()
             );
+        }
+        let judged = Judged::of(&made.bytes, &verdict);
+        for slice in benchmarks::make(seed, index, &made.bytes, verdict.err()) {
+            let figures = answer(&judged, &slice.bytes);
+            tally.count_supplemental(&figures);
+            if !slice.expected.agrees(&figures) {
+                unexpected += 1;
+                println!(
+                    "benchmarks of log {index}: expected {:?}, judged {figures:?}",
+                    slice.expected
+                );
+            }
         }
     }
     print!("{tally}");
     println!("longest accepted log: {accepted_bytes} bytes");
-    println!(
-        "never met: {:?}; unexpected: {unexpected}",
-        tally.never_met()
-    );
-    ExitCode::from(u8::from(unexpected > 0 || !tally.never_met().is_empty()))
+    print!("{}", tally.supplemental());
+    let (by_logs, by_benchmarks) = (tally.never_met(), tally.never_met_in_supplemental());
+    println!("never met: {by_logs:?}, {by_benchmarks:?}; unexpected: {unexpected}");
+    let all_met = by_logs.is_empty() && by_benchmarks.is_empty();
+    ExitCode::from(u8::from(unexpected > 0 || !all_met))
 }

@@ -69,7 +69,7 @@ fn put(rng: &mut Prng, number: u64, draft: &mut Draft) -> Option<Refusal> {
 }
 
 /// A place in a list: the first, the last, or any.
-fn place<T>(rng: &mut Prng, list: &[T]) -> Option<usize> {
+pub fn place<T>(rng: &mut Prng, list: &[T]) -> Option<usize> {
     if list.is_empty() {
         return None;
     }
@@ -85,7 +85,7 @@ fn pick_one<T: Copy>(rng: &mut Prng, choices: &[T]) -> Option<T> {
 }
 
 /// `low`, `high`, or any between.
-fn edge_or_between(rng: &mut Prng, low: u64, high: u64) -> u64 {
+pub fn edge_or_between(rng: &mut Prng, low: u64, high: u64) -> u64 {
     match rng.below(4) {
         0 => low,
         1 => high,
@@ -165,7 +165,7 @@ fn length(rng: &mut Prng, draft: &mut Draft) -> Option<Refusal> {
 }
 
 /// A spare field of so many bits with one bit set, or any.
-fn spare_bits(rng: &mut Prng, width: u64) -> u64 {
+pub fn spare_bits(rng: &mut Prng, width: u64) -> u64 {
     if rng.once_in(2) {
         1 << rng.below(width)
     } else {

@@ -1,5 +1,7 @@
-//! Makes logs from a seed: valid ones of every shape and damaged ones of every kind; and runs of calls that write them.
+//! Makes logs from a seed: valid ones of every shape and damaged ones of every kind; runs of calls that write them, and
+//! benchmarks for them.
 
+pub mod benchmarks;
 mod faults;
 mod raw;
 pub mod runs;
@@ -9,7 +11,7 @@ mod valid;
 use crate::prng::Prng;
 use crate::records::Refusal;
 
-/// What the generator knows of a log without reading it.
+/// What the generator knows of a log, or of benchmarks for it, without reading it.
 #[derive(Clone, Copy, Debug, PartialEq, Eq)]
 pub enum Expected {
     Accepted,
@@ -17,7 +19,17 @@ pub enum Expected {
     Unknown,
 }
 
-#[derive(Clone, Debug)]
+impl Expected {
+    pub fn agrees<T>(&self, verdict: &Result<T, Refusal>) -> bool {
+        match (self, verdict) {
+            (Expected::Unknown, _) | (Expected::Accepted, Ok(_)) => true,
+            (Expected::Refused(due), Err(refusal)) => due == refusal,
+            _ => false,
+        }
+    }
+}
+
+#[derive(Clone, Debug, PartialEq, Eq)]
 pub struct Made {
     pub bytes: Vec<u8>,
     pub expected: Expected,

@@ -25,12 +25,12 @@ pub fn damaged(rng: &mut Prng, draft: &Draft) -> Vec<u8> {
     bytes
 }
 
-fn random(rng: &mut Prng, length: usize) -> Vec<u8> {
+pub fn random(rng: &mut Prng, length: usize) -> Vec<u8> {
     (0..length).map(|_| rng.draw() as u8).collect()
 }
 
 /// Flips one to four bits from the byte `from` on.
-fn flip_bits(rng: &mut Prng, bytes: &mut [u8], from: usize) {
+pub fn flip_bits(rng: &mut Prng, bytes: &mut [u8], from: usize) {
     if bytes.len() <= from {
         return;
     }

@@ -108,8 +108,11 @@ impl Sizes {
     }
 }
 
+/// Periods of which many whole numbers of ms are an exact half in the fifth place.
+const HALVED: [u64; 4] = [32, 800, 4_000, 20_000];
+
 fn period(rng: &mut Prng) -> u64 {
-    match rng.below(12) {
+    match rng.below(13) {
         0 => 1,
         1 => rng.between(2, 16),
         2..=4 => rng.between(2, 3_000),
@@ -118,6 +121,7 @@ fn period(rng: &mut Prng) -> u64 {
         7 => WEEK,
         8 => LONGEST_PERIOD,
         9 => LONGEST_PERIOD - rng.below(1_000),
+        10 => rng.pick(&HALVED),
         _ => rng.spread(LONGEST_PERIOD),
     }
 }
