@@ -3,6 +3,7 @@
 use crate::library::{self, Answer, FiguresAndBases, Whose, UNTOUCHED, UNTOUCHED_FLAG};
 use crate::oracle::{figures, Account, Figures, Sums};
 use crate::records::Refusal;
+use crate::supplemental::Supplemental;
 use std::fmt::Debug;
 
 /// Bytes on both sides of the lent buffer that must stay as they are.
@@ -10,6 +11,16 @@ const MARGIN: usize = 64;
 
 /// Room for every report.
 const LARGE_ROOM: usize = 4_096;
+
+/// The longest bytes that a line of differences shows whole.
+const SHOWN_BYTES: usize = 2_000;
+
+pub fn shown(bytes: &[u8]) -> String {
+    if bytes.len() > SHOWN_BYTES {
+        return format!("of {} bytes", bytes.len());
+    }
+    bytes.iter().map(|byte| format!("{byte:02x}")).collect()
+}
 
 /// The differences of one log, one line each, and how often 18 was due.
 pub struct Comparison<'a> {
@@ -46,6 +57,28 @@ impl<'a> Comparison<'a> {
             comparison.sums_and_figures(whose);
         }
         comparison
+    }
+
+    /// The supplemental figures with the log's slice of this number, which the call has to leave as it is.
+    pub fn supplemental(
+        &mut self,
+        number: usize,
+        slice: &[u8],
+        expected: Result<Supplemental, Refusal>,
+    ) {
+        // At every alignment, whatever the log's.
+        let offset = (slice.len() + number) % 8;
+        let space = library::lent(slice, offset);
+        let lent = &space[offset..];
+        let before = self.differences.len();
+        let what = format!("supplemental figures, slice {number}");
+        self.compare_numbers(&what, expected, library::supplemental(self.log, lent));
+        if lent != slice {
+            self.differs(&what, &"the slice as it was", &shown(lent));
+        }
+        for difference in &mut self.differences[before..] {
+            *difference += &format!("; slice {}", shown(slice));
+        }
     }
 
     /// Buffer lengths to try.

@@ -25,6 +25,12 @@ pub const UNTOUCHED_FLAG: u8 = 0xa5;
 /// Figures and whether each efficiency has a base.
 pub type FiguresAndBases = ([f64; 6], [u8; 4]);
 
+/// Bytes to lend, from the offset on: their last is the last of what is allocated.
+pub fn lent(bytes: &[u8], offset: usize) -> Box<[u8]> {
+    let front = std::iter::repeat_n(&0xff, offset);
+    front.chain(bytes).copied().collect()
+}
+
 pub fn examine(log: &[u8], room: usize) -> Answer<()> {
     let mut refusal = [UNTOUCHED; 3];
     let answered = unsafe { c::tl_examine(log.as_ptr(), log.len(), room, &mut refusal) };
@@ -93,6 +99,26 @@ pub fn figures(log: &[u8], whose: Whose) -> Answer<FiguresAndBases> {
     Answer {
         answered,
         values: (figures, based),
+        refusal,
+    }
+}
+
+/// The tool's four supplemental figures with these benchmarks.
+pub fn supplemental(log: &[u8], benchmarks: &[u8]) -> Answer<[u64; 4]> {
+    let (mut values, mut refusal) = ([UNTOUCHED; 4], [UNTOUCHED; 3]);
+    let answered = unsafe {
+        c::tl_supplemental(
+            log.as_ptr(),
+            log.len(),
+            benchmarks.as_ptr(),
+            benchmarks.len(),
+            &mut values,
+            &mut refusal,
+        )
+    };
+    Answer {
+        answered,
+        values,
         refusal,
     }
 }

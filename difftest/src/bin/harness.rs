@@ -1,19 +1,21 @@
-//! Compares the linked library with the oracle on the generator's logs and on runs of calls that write them.
+//! Compares the linked library with the oracle on the generator's logs, with benchmarks for them and on runs of calls that
+//! write them.
 //!
 //! harness SEED COUNT
 
 use difftest::arguments::two_numbers;
-use difftest::comparison::Comparison;
-use difftest::generator::{make, runs, Expected};
+use difftest::comparison::{shown, Comparison};
+use difftest::generator::{benchmarks, make, runs, Expected};
+use difftest::library::lent;
 use difftest::oracle::account;
+use difftest::supplemental::{answer, Judged};
 use difftest::tally::Tally;
 use difftest::writing_comparison::first_difference;
 use std::fmt::Debug;
 use std::process::ExitCode;
 
-/// Lines of differences that are printed, and the longest log that a line shows whole.
+/// Lines of differences that are printed.
 const SHOWN_DIFFERENCES: u64 = 8;
-const SHOWN_BYTES: usize = 2_000;
 
 fn main() -> ExitCode {
     let Some((seed, count)) = two_numbers() else {
@@ -24,27 +26,36 @@ fn main() -> ExitCode {
     let mut differences = 0;
     for index in 0..count {
         let made = make(seed, index);
-        // At every alignment in turn, its last byte the last of what is allocated.
+        // At every alignment in turn.
         let offset = (index % 8) as usize;
-        let space: Box<[u8]> = std::iter::repeat_n(0xff, offset)
-            .chain(made.bytes)
-            .collect();
+        let space = lent(&made.bytes, offset);
         let log = &space[offset..];
 
         let verdict = account(log);
         tally.count(&verdict);
-        let comparison = Comparison::of(log, &verdict, index as usize / 8);
+        let mut comparison = Comparison::of(log, &verdict, index as usize / 8);
         tally.short_buffers += comparison.short_buffers;
-        let mut lines = comparison.differences;
-        match (made.expected, &verdict) {
-            (Expected::Unknown, _) | (Expected::Accepted, Ok(_)) => {}
-            (Expected::Refused(due), Err(refusal)) if due == *refusal => {}
-            (expected, _) => lines.push(format!(
-                "the oracle differs from the generator's {expected:?}"
-            )),
+        let mut lines = Vec::new();
+        if !made.expected.agrees(&verdict) {
+            lines.push(unexpected(&made.expected));
         }
+        let judged = Judged::of(log, &verdict);
+        let refused = judged.as_ref().err().copied();
+        let slices = benchmarks::make(seed, index, log, refused);
+        for (number, slice) in slices.iter().enumerate() {
+            let figures = answer(&judged, &slice.bytes);
+            tally.count_supplemental(&figures);
+            comparison.supplemental(number, &slice.bytes, figures);
+            if !slice.expected.agrees(&figures) {
+                lines.push(format!("slice {number}: {}", unexpected(&slice.expected)));
+            }
+        }
+        lines.extend(comparison.differences);
         for run in runs::make(seed, index, log, verdict.is_ok()) {
             lines.extend(first_difference(&run, offset, &mut tally));
+        }
+        if *log != *made.bytes {
+            lines.push(String::from("a call changed the log"));
         }
         for line in lines {
             if differences < SHOWN_DIFFERENCES {
@@ -58,10 +69,12 @@ fn main() -> ExitCode {
         "refused 18 list 0: {} verdicts on a short buffer",
         tally.short_buffers
     );
+    print!("{}", tally.supplemental());
     print!("{}", tally.writing());
     let numbers = tally.never_met_with_buffers();
     let all_met = [
         never_met("by a log", &numbers),
+        never_met("by benchmarks", &tally.never_met_in_supplemental()),
         never_met("by an adding call", &tally.never_met_in_adding()),
         never_met("by a finishing call", &tally.never_met_in_finishing()),
     ]
@@ -79,9 +92,6 @@ fn never_met<T: Debug>(by: &str, missed: &[T]) -> bool {
     !missed.is_empty()
 }
 
-fn shown(log: &[u8]) -> String {
-    if log.len() > SHOWN_BYTES {
-        return format!("of {} bytes", log.len());
-    }
-    log.iter().map(|byte| format!("{byte:02x}")).collect()
+fn unexpected(expected: &Expected) -> String {
+    format!("the oracle differs from the generator's {expected:?}")
 }
