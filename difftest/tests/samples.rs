@@ -1,17 +1,42 @@
-//! The sample logs give their expected output, and the figures that the papers print.
+//! The sample logs and benchmarks give their expected output, and the figures that the papers print.
 
 use difftest::draft::Draft;
 use difftest::oracle::{account, read};
 use difftest::records::*;
+use difftest::supplemental::{supplemental, text};
 use std::fs;
-use std::path::PathBuf;
+use std::path::{Path, PathBuf};
 
 fn folder() -> PathBuf {
     PathBuf::from(env!("CARGO_MANIFEST_DIR")).join("../samples")
 }
 
+/// What `toollog` has to print is in a folder of its own.
+fn printed_folder() -> PathBuf {
+    folder().join("toollog")
+}
+
+/// The files of a folder that have this extension.
+fn files(folder: &Path, extension: &str) -> Vec<PathBuf> {
+    let entries = fs::read_dir(folder).expect("a folder of samples");
+    entries
+        .map(|entry| entry.expect("an entry").path())
+        .filter(|path| path.extension().is_some_and(|own| own == extension))
+        .collect()
+}
+
+fn bytes(path: &Path) -> Vec<u8> {
+    fs::read(path).unwrap_or_else(|error| panic!("{path:?}: {error}"))
+}
+
 fn log(name: &str) -> Vec<u8> {
-    fs::read(folder().join(format!("{name}.log"))).expect("a sample log")
+    bytes(&folder().join(format!("{name}.log")))
+}
+
+/// What `toollog` has to print of a sample.
+fn printed(sample: &Path, subcommand: &str) -> Vec<u8> {
+    let name = sample.with_extension(subcommand);
+    bytes(&printed_folder().join(name.file_name().expect("a name")))
 }
 
 fn output(log: &[u8]) -> String {
@@ -28,49 +53,53 @@ fn bench_report(figures: &str) -> String {
 
 #[test]
 fn expected_output() {
-    let mut samples = 0;
-    for entry in fs::read_dir(folder()).expect("the samples") {
-        let path = entry.expect("an entry").path();
-        if path.extension().is_some_and(|extension| extension == "log") {
-            let expected = fs::read_to_string(path.with_extension("txt")).expect("its output");
-            assert_eq!(
-                output(&fs::read(&path).expect("its bytes")),
-                expected,
-                "{path:?}"
-            );
-            samples += 1;
-        }
+    let samples = files(&folder(), "log");
+    for path in &samples {
+        let expected = bytes(&path.with_extension("txt"));
+        assert_eq!(output(&bytes(path)).into_bytes(), expected, "{path:?}");
     }
-    assert_eq!(samples, 26);
+    assert_eq!(samples.len(), files(&folder(), "txt").len());
 }
 
 /// The tables that `toollog` has to print of each accepted sample.
 #[test]
 fn expected_tables() {
-    let mut tables = 0;
-    for entry in fs::read_dir(folder().join("toollog")).expect("the tables") {
-        let path = entry.expect("an entry").path();
-        let name = path
-            .file_stem()
-            .and_then(|name| name.to_str())
-            .expect("a name");
-        let expected = || fs::read(&path).expect("its bytes");
-        match path.extension().and_then(|extension| extension.to_str()) {
-            Some("times") => {
-                assert_eq!(account(&log(name)).unwrap().times(), expected(), "{path:?}")
-            }
-            Some("quantities") => {
-                assert_eq!(
-                    account(&log(name)).unwrap().quantities(),
-                    expected(),
-                    "{path:?}"
-                )
-            }
-            _ => continue,
+    let mut accepted = 0;
+    for path in files(&folder(), "log") {
+        if let Ok(account) = account(&bytes(&path)) {
+            assert_eq!(account.times(), printed(&path, "times"), "{path:?}");
+            assert_eq!(
+                account.quantities(),
+                printed(&path, "quantities"),
+                "{path:?}"
+            );
+            accepted += 1;
         }
-        tables += 1;
     }
-    assert_eq!(tables, 16);
+    for subcommand in ["times", "quantities"] {
+        assert_eq!(accepted, files(&printed_folder(), subcommand).len());
+    }
+}
+
+/// The figures that `toollog` has to print of each slice of benchmarks, or its refusal. Its log has its name; where there is none, it is that of R1-3.
+#[test]
+fn expected_supplemental() {
+    let samples = files(&folder(), "benchmarks");
+    for path in &samples {
+        let own = path.with_extension("log");
+        let log = if own.exists() {
+            bytes(&own)
+        } else {
+            log("r1-3")
+        };
+        let figures = supplemental(&log, &bytes(path)).map(|figures| text(&figures));
+        let output = figures.unwrap_or_else(|refusal| refusal.line().into_bytes());
+        assert_eq!(output, printed(path, "supplemental"), "{path:?}");
+    }
+    assert_eq!(
+        samples.len(),
+        files(&printed_folder(), "supplemental").len()
+    );
 }
 
 /// 002, R1-2: the hours of module B and of the tool, in ms.
@@ -221,28 +250,23 @@ fn ascend<T: PartialOrd>(keys: impl Iterator<Item = T>) -> bool {
 /// The lists of the accepted samples ascend.
 #[test]
 fn lists_in_sequence() {
-    for name in [
-        "case-w",
-        "r1-1",
-        "r1-2",
-        "guidebook",
-        "etcher",
-        "wide",
-        "longest",
-        "same-shift",
-    ] {
-        let log = read(&log(name)).expect("well formed");
+    for path in files(&folder(), "log") {
+        let bytes = bytes(&path);
+        if account(&bytes).is_err() {
+            continue;
+        }
+        let log = read(&bytes).expect("well formed");
         assert!(
             ascend(log.states.iter().map(|it| (it.time, it.module))),
-            "{name}"
+            "{path:?}"
         );
         assert!(
             ascend(log.standards.iter().map(|it| (it.recipe, it.start))),
-            "{name}"
+            "{path:?}"
         );
         assert!(
             ascend(log.units.iter().map(|it| (it.time, it.module, it.recipe))),
-            "{name}"
+            "{path:?}"
         );
     }
 }
