@@ -1,4 +1,4 @@
--- What the six calls answer as seven numbers, and bytes that hold them. Definitions only.
+-- What the calls answer as seven numbers, and bytes that hold them. Definitions only.
 use mathlib.Core.Path.{_≡_}
 use mathlib.Core.List.{List, [], _∷_}
 use mathlib.Core.Bool.{cond}
@@ -21,6 +21,10 @@ use Rattle.answering.specs.declared.QuantitiesAnswer.{QuantitiesAnswer}
 use Rattle.answering.specs.declared.QuantitiesAnswer.the-variants as quantities
 use Rattle.answering.specs.declared.FiguresAnswer.{FiguresAnswer}
 use Rattle.answering.specs.declared.FiguresAnswer.the-variants as figures
+use Rattle.benchmarks.specs.Benchmarks.{benchmarkAt, verdictWith}
+use Rattle.supplemental.specs.declared.SupplementalAnswer.{SupplementalAnswer}
+use Rattle.supplemental.specs.declared.SupplementalAnswer.the-variants as supplemental
+use Rattle.supplemental.specs.Supplemental.{supplementalOf}
 
 -- a refusal: its number, its list, its place
 abbrev pub ofRefusal : Refusal → List ℕ
@@ -54,6 +58,11 @@ ofFigures (figures.Answered f) =
     ∷ []
 ofFigures (figures.Refused x) = ofRefusal x
 
+-- the four supplemental figures
+abbrev pub ofSupplemental : SupplementalAnswer → List ℕ
+ofSupplemental (supplemental.Answered f) = 0 ∷ f .reference ∷ f .optimized ∷ f .added ∷ f .units ∷ 0 ∷ 0 ∷ []
+ofSupplemental (supplemental.Refused x) = ofRefusal x
+
 -- what a call of a kind answers for a log and a module: the state times 1 of the module, 2 of the tool; the quantities 3 and 4; the doubles 5 and 6
 unfoldable pub answersOf : ℕ → List ℕ → ℕ → List ℕ
 answersOf kind s m =
@@ -63,6 +72,10 @@ answersOf kind s m =
     (cond (eqb kind 4) (ofQuantities (answerOf quantities.Answered quantities.Refused (verdict s) (ofTool (decode s))))
     (cond (eqb kind 5) (ofFigures (answerOf figures.Answered figures.Refused (verdictOn s m) (figuresOf (ofModule (decode s) m))))
     (ofFigures (answerOf figures.Answered figures.Refused (verdict s) (figuresOf (ofTool (decode s)))))))))
+
+-- what the call for the supplemental figures answers for a log and its benchmarks
+abbrev pub measuredOf : List ℕ → List ℕ → List ℕ
+measuredOf s b = ofSupplemental (answerOf supplemental.Answered supplemental.Refused (verdictWith s b) (supplementalOf (decode s) (benchmarkAt b)))
 
 -- the bytes are these seven numbers, of eight bytes each
 pub record Numbers (bytes numbers : List ℕ) : Type 0 where

@@ -3,12 +3,13 @@
 //
 // Input: the number of cases in 2 bytes; then for each
 // - its kind in 1 byte, the call that is run. 0: `report`, with the verdict of `examine`. The state times, 1 of a module, 2 of the tool; the
-//   quantities, 3 of a module, 4 of the tool; the set of doubles, 5 of a module, 6 of the tool. 7: `write_report`. 8: `print_report`;
+//   quantities, 3 of a module, 4 of the tool; the set of doubles, 5 of a module, 6 of the tool. 7: `write_report`. 8: `print_report`. 9: the
+//   supplemental figures;
 // - the length of its name in 1 byte;
-// - in 4 bytes each what the call is asked for beside the log (0, 7: how many bytes of a buffer are lent; 1, 3, 5: the module), the length of the log
-//   and that of what is expected;
+// - in 4 bytes each what the call is asked for beside the log (0, 7: how many bytes of a buffer are lent; 1, 3, 5: the module; 9: how many bytes are the
+//   log's, behind which its benchmarks stand), the length of the log and that of what is expected;
 // - the name, the log, and what is expected. Of 0, 7 and 8 that is a text: the report, or the line of the refusal, or nothing where `write_report`
-//   refuses. Of 1 to 6 it is seven numbers of 8 bytes, as numbers.rt has them.
+//   refuses. Of 1 to 6 and of 9 it is seven numbers of 8 bytes, as numbers.rt has them.
 mod buffer;
 mod numbers;
 mod texts;
@@ -16,7 +17,8 @@ mod texts;
 ghost use mathlib.Core.Path.{_≡_};
 ghost use mathlib.Core.Bool.{true};
 ghost use Prim.Native.Nat.{min};
-ghost use Rattle.cases.specs.Right.{Right};
+ghost use Rattle.cases.specs.Numbers.{Numbers};
+ghost use Rattle.cases.specs.Right.{measuredIn, Right};
 use libc::STDIN_FILENO;
 use libc::STDOUT_FILENO;
 use std::num::wrapping_add_usize;
@@ -38,6 +40,14 @@ fn number(data: &[u8], at: usize, width: usize) -> usize {
     bits::read_field(part(data, at, 8), 0, width) as usize
 }
 
+// Whether the first bytes are a log and the others benchmarks whose supplemental figures are the expected ones.
+fn measures(both: &[u8], size: usize, expected: &[u8]) -> bool
+    ensures { λ r. ⌜ (r ≡ true → Numbers (now (expected .entry)) (measuredIn (now (both .entry)) size)) ⌝ }
+{
+    let n = least(size, both.len());
+    numbers::measured_as_expected(&both[..n], &both[n..], expected)
+}
+
 // Whether a case is answered as expected. Behind the part of a buffer that is lent stand 32 bytes more.
 fn as_expected(kind: usize, log: &[u8], asked: usize, expected: &[u8]) -> bool
     ensures { λ r. ⌜ (r ≡ true → Right kind (now (log .entry)) asked (now (expected .entry))) ⌝ }
@@ -49,6 +59,7 @@ fn as_expected(kind: usize, log: &[u8], asked: usize, expected: &[u8]) -> bool
         1..=6 => numbers::as_expected(kind, log, asked, expected),
         7 => texts::writes(log, &mut space[..room + 32], room, expected),
         8 => texts::prints(log, expected),
+        9 => measures(log, asked, expected),
         _ => false,
     }
 }

@@ -1,16 +1,17 @@
-// What the six calls answer as seven numbers, and their comparison with those that are expected. An answer is 0 and six numbers: the state times in ms,
-// the five quantities in ms and 0, or the bit patterns of the doubles, 2^64 - 1 where there is no base. A refusal is its number, its list, its place and
-// four times 0.
+// What the calls answer as seven numbers, and their comparison with those that are expected. An answer is 0 and six numbers: the state times in ms,
+// the five quantities in ms and 0, the bit patterns of the doubles, 2^64 - 1 where there is no base, or the four supplemental figures and twice 0. A
+// refusal is its number, its list, its place and four times 0.
 ghost use mathlib.Core.Path.{_≡_};
 ghost use mathlib.Core.Bool.{true};
 ghost use mathlib.Core.Logic.{_↔_};
 ghost use lib.Ieee.{toBits, binary64};
-ghost use Rattle.cases.specs.Numbers.{ofRefusal, ofTimes, ofQuantities, ofEfficiency, ofFigures, answersOf, Numbers};
+ghost use Rattle.cases.specs.Numbers.{ofRefusal, ofTimes, ofQuantities, ofEfficiency, ofFigures, ofSupplemental, answersOf, measuredOf, Numbers};
 use e79::Efficiency;
 use rules::Refusal;
 use tool_log::FiguresAnswer;
 use tool_log::QuantitiesAnswer;
 use tool_log::StateTimesAnswer;
+use tool_log::SupplementalAnswer;
 
 fn of_refusal(x: Refusal) -> [u64; 7]
     ensures { λ r. ⌜ r ≡ ofRefusal x ⌝ }
@@ -90,6 +91,15 @@ fn of_figures(a: FiguresAnswer) -> [u64; 7]
     }
 }
 
+fn of_supplemental(a: SupplementalAnswer) -> [u64; 7]
+    ensures { λ r. ⌜ r ≡ ofSupplemental a ⌝ }
+{
+    match a {
+        SupplementalAnswer::Answered(f) => [0, f.reference, f.optimized, f.added, f.units, 0, 0],
+        SupplementalAnswer::Refused(x) => of_refusal(x),
+    }
+}
+
 // Whether the bytes are these seven numbers, of eight bytes each.
 fn same(numbers: &[u64; 7], bytes: &[u8]) -> bool
     ensures { λ r. ⌜ (r ≡ true) ↔ Numbers (now (bytes .entry)) (now (numbers .entry)) ⌝ }
@@ -124,5 +134,13 @@ pub fn as_expected(kind: usize, log: &[u8], m: usize, expected: &[u8]) -> bool
     ensures { λ r. ⌜ (r ≡ true) ↔ Numbers (now (expected .entry)) (answersOf kind (now (log .entry)) m) ⌝ }
 {
     let numbers = answered(kind, log, m);
+    same(&numbers, expected)
+}
+
+// The same of the supplemental figures.
+pub fn measured_as_expected(log: &[u8], benchmarks: &[u8], expected: &[u8]) -> bool
+    ensures { λ r. ⌜ (r ≡ true) ↔ Numbers (now (expected .entry)) (measuredOf (now (log .entry)) (now (benchmarks .entry))) ⌝ }
+{
+    let numbers = of_supplemental(tool_log::tool_supplemental(log, benchmarks));
     same(&numbers, expected)
 }

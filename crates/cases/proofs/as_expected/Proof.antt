@@ -6,7 +6,7 @@ use native.Mathlib.Omega.{arith}
 use lib.Seq.{length-take-le}
 use Rattle.reporting.specs.Reports.{writtenPart}
 use Rattle.cases.specs.Texts.{textFor}
-use Rattle.cases.specs.Right.{by-report, by-numbers, by-write, by-print}
+use Rattle.cases.specs.Right.{by-report, by-numbers, by-write, by-print, by-supplemental}
 use Rattle.cases.proofs.as_expected.Statement.{statement}
 use Rattle.cases.proofs.as_expected.Tie as tie
 
@@ -41,8 +41,10 @@ as-expected-spec =
     (λ c κs. omega (arith, slice-aggregate-writes c))
     (λ c κs. search needs)
     (λ c κs. search needs)
+    (λ c κs. search needs)
     returns
     returns-2
     (λ c e. by-print (c .before .match .keys3) (c .prints .ensures e))
+    (λ c e. by-supplemental (c .before .match .keys4) (c .measures .ensures e))
     (λ c e. by-numbers (search needs) (search needs) (c .as-expected .ensures .0 e))
     (λ c e. absurd (false≢true e)))
