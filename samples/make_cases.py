@@ -1,17 +1,18 @@
 #!/usr/bin/env python3
 """Makes the input of the program `cases` and what it must print: the edge cases of document 01 and of R-1, the printed figures of 002 and
-of 003's worked example, and inputs that are no log, as reports and through the calls for state times, quantities and doubles. What each
-must give is written here from those papers: hours as 002 prints them, doubles from exact fractions. The logs are written by the library, as
-make.py's are; of what they must give nothing is taken from it."""
+of 003's worked example, and inputs that are no log, as reports and through the calls for state times, quantities and doubles; and R1-3 of
+002 and the refusals of benchmarks through the call for the supplemental figures. What each must give is written here from those papers: hours as
+002 prints them, doubles from exact fractions. The logs are written by the library, as make.py's are; of what they must give nothing is taken
+from it."""
 
 import struct
 from fractions import Fraction
 from pathlib import Path
 
-from make import HOUR, WEEK, case_w, guidebook, log, r1_1, r1_2
+from make import HOUR, WEEK, case_w, guidebook, log, pack_benchmarks, r1_1, r1_2, r1_3
 
 # The kinds of a case, as crates/cases/src/main.rt has them.
-REPORT, MODULE_TIMES, TOOL_TIMES, MODULE_QUANTITIES, TOOL_QUANTITIES, MODULE_DOUBLES, TOOL_DOUBLES, WRITE, PRINT = range(9)
+REPORT, MODULE_TIMES, TOOL_TIMES, MODULE_QUANTITIES, TOOL_QUANTITIES, MODULE_DOUBLES, TOOL_DOUBLES, WRITE, PRINT, SUPPLEMENTAL = range(10)
 OF_MODULE = MODULE_TIMES, MODULE_QUANTITIES, MODULE_DOUBLES
 OF_TOOL = TOOL_TIMES, TOOL_QUANTITIES, TOOL_DOUBLES
 CALLED = {
@@ -323,6 +324,48 @@ CALLS = [
     *turned_back_by(OF_MODULE, "stray module 2^32 - 1", case_w(), 2**32 - 1, 7, 0, 2**32 - 1),
 ]
 
+# ---- the supplemental figures
+
+# 002, Table R1-2, in ms: reference, optimized and value-added time, and total effective units, of recipes A to D
+R1_3 = [(119_988, 90_000, 36_000, 1250), (119_988, 72_000, 18_000, 550), (119_988, 54_000, 18_000, 725), (119_988, 117_000, 36_000, 450)]
+# ten milliseconds, two revisions of recipe 0 and two units: one of 2 ms, one of 3 ms
+REVISED = made(TWO, (3, 1, 1), (5, 1, 1))
+
+
+def by_benchmarks(name, data, benchmarks, *numbers):
+    """Benchmarks by their rows, or as bytes, behind a log; the four figures, or a refusal."""
+    packed = benchmarks if isinstance(benchmarks, bytes) else pack_benchmarks(benchmarks)
+    return SUPPLEMENTAL, name, data + packed, len(data), answered(*numbers, 0, 0) if len(numbers) == 4 else (*numbers, 0, 0, 0, 0)
+
+
+def but(place, row):
+    """R1-3's benchmarks with another row at one place."""
+    return [row if i == place else given for i, given in enumerate(R1_3)]
+
+
+SUPPLEMENTALS = [
+    by_benchmarks("R1-3", r1_3(), R1_3, 6706, 4589, 1595, 7733),
+    # 2 + 3 of 10 ms, 1 + 1, 1 + 2, and the second unit's 3
+    by_benchmarks("each revision by its own benchmark", REVISED, [(2, 1, 1, 0), (3, 1, 2, 1)], 5000, 2000, 3000, 3000),
+    by_benchmarks("no standards", productive(10), b"", 0, 0, 0, 0),
+    by_benchmarks("no standards, a byte", productive(10), b"\0", 5, 4, 0),
+    by_benchmarks("benchmarks, a byte short", r1_3(), pack_benchmarks(R1_3)[:-1], 5, 4, 0),
+    by_benchmarks("benchmarks, a byte long", r1_3(), pack_benchmarks(R1_3) + b"\0", 5, 4, 0),
+    by_benchmarks("benchmarks, a spare bit", r1_3(), pack_benchmarks(R1_3)[:-1] + b"\x21", 6, 4, 3),
+    by_benchmarks("benchmarks, no reference time", r1_3(), but(0, (0, 90_000, 36_000, 1250)), 12, 4, 0),
+    by_benchmarks("benchmarks, no optimized time", r1_3(), but(1, (119_988, 0, 18_000, 550)), 12, 4, 1),
+    by_benchmarks("benchmarks, no value-added time", r1_3(), but(2, (119_988, 54_000, 0, 725)), 12, 4, 2),
+    by_benchmarks("benchmarks, reference above standard", r1_3(), but(0, (119_989, 90_000, 36_000, 1250)), 20, 4, 0),
+    by_benchmarks("benchmarks, optimized above standard", r1_3(), but(1, (119_988, 144_001, 18_000, 550)), 20, 4, 1),
+    by_benchmarks("benchmarks, value-added above standard", r1_3(), but(3, (119_988, 117_000, 240_013, 450)), 20, 4, 3),
+    by_benchmarks("benchmarks, over-counted", r1_3(), but(3, (119_988, 117_000, 36_000, 481)), 21, 4, 3),
+    by_benchmarks("benchmarks, all at their bounds", REVISED, [(2, 2, 2, 1), (3, 3, 3, 1)], 5000, 5000, 5000, 5000),
+    by_benchmarks("benchmarks, 12 ahead of 20 and 21", REVISED, [(3, 0, 1, 2), (3, 1, 2, 1)], 12, 4, 0),
+    by_benchmarks("benchmarks, 20 ahead of 21", REVISED, [(2, 1, 1, 1), (4, 1, 2, 2)], 20, 4, 1),
+    by_benchmarks("benchmarks, those of the neighbour", REVISED, [(3, 1, 2, 1), (2, 1, 1, 0)], 20, 4, 0),
+    by_benchmarks("the log ahead of its benchmarks", case_w()[:-1], b"", 5, 0, 0),
+]
+
 # ---- what has to differ, so that it is seen that the program compares and tells
 
 WRONG_TEXTS = [
@@ -334,6 +377,7 @@ WRONG_TEXTS = [
 WRONG_CALLS = [
     (MODULE_TIMES, "a time wrong on purpose", case_w(), 0, answered(*W_TIMES[0][:5], 1)),
     (TOOL_DOUBLES, "a bit wrong on purpose", case_w(), 0, answered(*doubles(*R1_2_TOOL)[:5], doubles(*R1_2_TOOL)[5] ^ 1)),
+    by_benchmarks("a ten-thousandth wrong on purpose", r1_3(), R1_3, 6706, 4589, 1596, 7733),
 ]
 
 
@@ -356,7 +400,7 @@ if __name__ == "__main__":
         *(text_entry(REPORT, *case) for case in REPORTS),
         *(text_entry(WRITE, *case) for case in WRITES),
         *(text_entry(PRINT, name, data, 0, text) for name, data, text in PRINTS),
-        *(call_entry(*case) for case in CALLS),
+        *(call_entry(*case) for case in CALLS + SUPPLEMENTALS),
         *(text_entry(*case) for case in WRONG_TEXTS),
         *(call_entry(*case) for case in WRONG_CALLS),
     ]

@@ -2,3 +2,4 @@ pub mod ByStretches
 pub mod StarredCases
 pub mod CaseWWhole
 pub mod SequenceCases
+pub mod AppendixExample

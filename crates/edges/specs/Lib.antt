@@ -1,3 +1,4 @@
 pub mod Cases
 pub mod CaseW
 pub mod Sequences
+pub mod Appendix

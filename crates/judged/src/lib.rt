@@ -40,7 +40,8 @@ fn count_unit(
 {
     let u = records::unit_from(log, byte);
     let n = h.standards;
-    let Lookup::Found(p) = theoretical::look_up(log, h, n, entries, recipes, last, u.recipe, u.time) else {
+    let Lookup::Found(p) = theoretical::look_up(log, h, n, entries, recipes, last, u.recipe, u.time)
+    else {
         return;
     };
     count(judged, p.index, u.effective);

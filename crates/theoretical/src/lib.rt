@@ -93,10 +93,7 @@ fn placed_at(
         start: entry / 0x800_0000,
         theoretical: entry % 0x800_0000,
     };
-    Placed {
-        index: i,
-        standard,
-    }
+    Placed { index: i, standard }
 }
 
 // The walk over the first `from` standards, from the last of them towards the front of the list: the first on the way that is the recipe's and starts at or

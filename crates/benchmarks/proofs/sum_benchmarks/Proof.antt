@@ -41,9 +41,11 @@ loop-again : tie.Need-loop-again Inv-loop μ-loop
 loop-again c =
     let t = c .before .before in
     let l = t .before .before .before in
-    let s = l .before .before .before in
-    (refl, taken-step (decode (s .args .log .now)) (benchmarkAt (s .args .benchmarks .now)) (s .args .h .standards) (l .loop .i) (l .loop .sums) _ (t .before .before .loop-test .taken) (l .loop .inv .1)
-    (t .take-benchmark .result) (t .take-benchmark .ensures) (c .enum-told2 .given .1))
+    let s = l .before .before .before in (
+      refl,
+      taken-step (decode (s .args .log .now)) (benchmarkAt (s .args .benchmarks .now)) (s .args .h .standards) (l .loop .i) (l .loop .sums) _ (t .before .before .loop-test .taken) (l .loop .inv .1)
+          (t .take-benchmark .result) (t .take-benchmark .ensures) (c .enum-told2 .given .1),
+    )
 
 returns-2 : tie.Need-returns-2 Inv-loop μ-loop
 returns-2 c =

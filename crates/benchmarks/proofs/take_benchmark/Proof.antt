@@ -40,11 +40,12 @@ add-benchmark-requires : tie.Need-add-benchmark-requires
 add-benchmark-requires c κs =
     let b = c .before .before .before .before .before .before in
     let s = b .before .before .before .before in
-    let a = s .args in
-    (rw (time-read b) (time-low (a .log .now) (a .h) (s .pre .0 .header) (a .i) (s .pre .1 .0)),
-    s .pre .0 .low (a .i) (low b),
-    rw (b .benchmark-within .ensures) (narrow (a .benchmarks .now) (112 * a .i)),
-    rw (s .pre .1 .1) (sums-below (a .log .now) (a .benchmarks .now) (a .judged .now) (a .h) (s .pre .0) (a .i) (s .pre .1 .0)))
+    let a = s .args in (
+      rw (time-read b) (time-low (a .log .now) (a .h) (s .pre .0 .header) (a .i) (s .pre .1 .0)),
+      s .pre .0 .low (a .i) (low b),
+      rw (b .benchmark-within .ensures) (narrow (a .benchmarks .now) (112 * a .i)),
+      rw (s .pre .1 .1) (sums-below (a .log .now) (a .benchmarks .now) (a .judged .now) (a .h) (s .pre .0) (a .i) (s .pre .1 .0)),
+    )
 
 returns-2 : tie.Need-returns-2
 returns-2 c =

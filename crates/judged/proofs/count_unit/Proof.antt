@@ -59,17 +59,18 @@ low c =
     let u = c .before .before .before .unit-from .result in
     omega (arith, the-one (standardAt (s .args .log .now) (s .args .h)) (u .recipe) (u .time) (s .args .h .standards) (c .p .given .0 .0) (found c) .listed, s .pre .0 .held .few)
 
-few : (c : tie.After-p) → c .before .before .before .unit-from .result .effective < 65536
-few c =
+narrow : (c : tie.After-p) → let u = c .before .before .before .unit-from .result in (u .actual < 65536) × (u .effective < 65536)
+narrow c =
     let u = c .before .before .before in
     let a = u .before .before .args in
-    unit-widths (a .log .now) (a .h) (a .i) (u .unit-from .result) (reads u) .4
+    let w = unit-widths (a .log .now) (a .h) (a .i) (u .unit-from .result) (reads u) in
+    (w .3, w .4)
 
 count-requires : tie.Need-count-requires
 count-requires c κs =
     let f = c .before .before in
     let s = f .before .before .before .before .before in
-    (low f, few f, omega (arith, s .pre .1 .1 .0 .low (f .p .given .0 .0 .index) (low f), s .pre .1 .1 .1 .0))
+    (low f, omega (arith, narrow f), omega (arith, s .pre .1 .1 .0 .low (f .p .given .0 .0 .index) (low f), s .pre .1 .1 .1 .0))
 
 returns-2 : tie.Need-returns-2
 returns-2 c =
@@ -77,7 +78,7 @@ returns-2 c =
     let u = f .before .before .before in
     let s = u .before .before in
     rw (c .count .ensures)
-    (counted-more (standards s) (unitAt (s .args .log .now) (s .args .h)) (s .args .i) (u .unit-from .result) (reads u) (s .args .judged .now) (s .pre .1 .1 .0) (f .p .given .0 .0) (found f) (low f) (few f))
+    (counted-more (standards s) (unitAt (s .args .log .now) (s .args .h)) (s .args .i) (u .unit-from .result) (reads u) (s .args .judged .now) (s .pre .1 .1 .0) (f .p .given .0 .0) (found f) (low f) (narrow f .1))
 
 pub count-unit-spec : {M : Type 1} → statement M
 count-unit-spec =

@@ -25,7 +25,8 @@ returns : tie.Need-returns
 returns c =
     let r = c .before .before in
     let s = r .before .before .before in
-    length-refused (s .args .log .now) (s .args .benchmarks .now) (s .pre .0) (λ e. c .if1 .taken (rw (r .read-header .ensures) e))
+    let other : length (s .args .benchmarks .now) ≡ 14 * headerOf (s .args .log .now) .standards → ⊥ = λ e. (let same : length (s .args .benchmarks .now) ≡ 14 * r .read-header .result .standards = rw (r .read-header .ensures) e in omega (arith, c .if1 .taken, same)) in
+    length-refused (s .args .log .now) (s .args .benchmarks .now) (s .pre .0) other
 
 effective-units-requires : tie.Need-effective-units-requires
 unfolding decode
