@@ -1,12 +1,15 @@
 //! Measures a whole report (verdict and bytes) of each log: the library, (a) the plain program that
-//! walks the standards and (b) the best by hand; then the longest log written call by call: the
-//! library and by hand. Each time is the best of many repetitions.
+//! walks the standards and (b) the best by hand; then the supplemental figures of each log: the
+//! library alone; then the longest log written call by call: the library and by hand. Each time is
+//! the best of many repetitions.
 
 use bench::logs::{variants, Variant};
 use bench::writing::{Calls, BY_HAND};
 use bench::{sorted, walk};
+use difftest::draft::packed;
 use difftest::library;
 use difftest::oracle::read;
+use difftest::records::{Benchmark, Standard};
 use std::hint::black_box;
 use std::process::ExitCode;
 use std::time::{Duration, Instant};
@@ -35,7 +38,7 @@ const LIBRARY: Calls = Calls {
 };
 
 fn main() -> ExitCode {
-    if reports() && writing() {
+    if reports() && supplemental() && writing() {
         ExitCode::SUCCESS
     } else {
         ExitCode::FAILURE
@@ -63,6 +66,33 @@ fn reports() -> bool {
         );
     }
     true
+}
+
+/// A row for each log, with benchmarks at their bounds; whether they are accepted.
+fn supplemental() -> bool {
+    println!("microseconds for supplemental figures  library");
+    for Variant { name, log } in variants() {
+        let standards = read(&log).expect("a log of the right length").standards;
+        let benchmarks = packed(&standards.iter().map(at_its_bounds).collect::<Vec<_>>());
+        if library::supplemental(&log, &benchmarks).answered != 1 {
+            println!("{name}: benchmarks are refused");
+            return false;
+        }
+        let measure = |_: &mut [u8]| {
+            library::supplemental(black_box(&log), black_box(&benchmarks)).answered as usize
+        };
+        let [ours] = in_turns(&mut [], [measure]);
+        println!("{name:<37} {ours:>8.2}");
+    }
+    true
+}
+
+fn at_its_bounds(standard: &Standard) -> Benchmark {
+    Benchmark {
+        times: [standard.theoretical; 3],
+        total_effective: 0,
+        spare: 0,
+    }
 }
 
 /// A row for the longest log written, one for finishing it; whether it is written as it is.

@@ -1,8 +1,7 @@
 -- From the call's answer to what is printed of it. Assumes nothing.
-use mathlib.Core.Path.{_≡_, refl, sym, ap, _∙_}
+use mathlib.Core.Path.{_≡_, sym, ap, _∙_}
 use mathlib.Core.List.{List}
 use Prim.Native.Nat.{ℕ, _≤_}
-use native.Mathlib.Omega.{arith}
 use lib.Dec.{lit≤}
 use Rattle.records.specs.Log.{decode}
 use Rattle.rules.specs.declared.Refusal.{Refusal}

@@ -5,7 +5,6 @@ use mathlib.Core.List.{List, [], _∷_, _++_, map, map-append}
 use Prim.Native.Nat.{ℕ, zero, suc, _+_, _*_, _^_, _≤_, _<_}
 use native.Mathlib.Nat.{mul-le-mul}
 use native.Mathlib.Omega.{arith}
-use lib.ListN.{length, getD}
 use Rattle.bits.proofs.Fields.{field-lt}
 use Rattle.records.specs.declared.Header.{Header}
 use Rattle.records.specs.Log.{Log, upTo, headerOf, standardAt, decode}
@@ -17,7 +16,7 @@ use Rattle.rules.specs.declared.Verdict.the-variants.{Accepted, Refused}
 use Rattle.rules.specs.Grounds.{firstOf}
 use Rattle.rules.specs.Quantities.{sumBelow}
 use Rattle.rules.proofs.FirstGround.{refused-not, first-none, first-more, first-stop}
-use Rattle.rules.proofs.SumLaws.{sum-none, sum-more, sum-low}
+use Rattle.rules.proofs.SumLaws.{sum-more, sum-low}
 use Rattle.benchmarks.specs.declared.Benchmark.{Benchmark}
 use Rattle.benchmarks.specs.Benchmarks.{benchmarkFrom, benchmarkAt, standardsIn, timeAt, effectiveJudged, groundAt, judgedTime, unitsTime}
 use Rattle.benchmarks.specs.Taking.{sumsTo, grown, Narrow, Below, Lent, Taken, AllTaken}

@@ -3,7 +3,7 @@
 use mathlib.Core.Path.{_≡_}
 use mathlib.Core.List.{List, [], _∷_}
 use Prim.Native.Nat.{ℕ, _+_, _*_, _^_, _≤_, _<_}
-use lib.ListN.{length, getD}
+use lib.ListN.{getD}
 use Rattle.records.specs.declared.Header.{Header}
 use Rattle.records.specs.Log.{Log, headerOf, decode}
 use Rattle.records.specs.Covers.{Covers}
@@ -12,7 +12,7 @@ use Rattle.rules.specs.declared.Verdict.the-variants.{Accepted}
 use Rattle.rules.specs.Grounds.{firstOf}
 use Rattle.rules.specs.Quantities.{sumBelow}
 use Rattle.benchmarks.specs.declared.Benchmark.{Benchmark}
-use Rattle.benchmarks.specs.Benchmarks.{benchmarkAt, standardsIn, timeAt, effectiveJudged, groundAt, judgedTime, unitsTime}
+use Rattle.benchmarks.specs.Benchmarks.{standardsIn, effectiveJudged, groundAt, judgedTime, unitsTime}
 
 -- the four: reference, optimized, value-added, total effective units
 abbrev pub sumsTo : Log → (ℕ → Benchmark) → ℕ → List ℕ

@@ -1,8 +1,8 @@
 -- Accepted benchmarks keep each of the four sums at or below the tool's theoretical time for effective units: their times are at most the standards', and their
 -- total effective units at most those judged. So each figure is at most 1.0000.
 -- Assumes nothing.
-use mathlib.Core.Path.{_≡_, refl, sym, ap, _∙_}
-use mathlib.Core.Bool.{false, _||_, not}
+use mathlib.Core.Path.{_≡_, refl, ap, _∙_}
+use mathlib.Core.Bool.{_||_, not}
 use mathlib.Core.List.{List}
 use Prim.Native.Nat.{ℕ, _*_, _≤_, _<_}
 use native.Mathlib.Nat.{mul-le-mul-left, mul-le-mul-right}
@@ -24,7 +24,7 @@ use Rattle.rules.proofs.Judged.{passed, judged-time}
 use Rattle.rules.proofs.Risen.{lists-accepted}
 use Rattle.rules.proofs.SumLaws.{sum-same, sum-le}
 use Rattle.benchmarks.specs.declared.Benchmark.{Benchmark}
-use Rattle.benchmarks.specs.Benchmarks.{standardsIn, timeAt, effectiveJudged, anyZero, anyAbove, benchmarkGround, groundAt, judgedTime, unitsTime, ofAll}
+use Rattle.benchmarks.specs.Benchmarks.{standardsIn, timeAt, effectiveJudged, anyZero, anyAbove, benchmarkGround, groundAt, judgedTime, ofAll}
 use Rattle.benchmarks.specs.Taking.{sumsTo}
 use Rattle.benchmarks.proofs.Taking.{count-is, time-is}
 use Rattle.supplemental.specs.Supplemental.{referenceTime, optimizedTime, addedTime, totalUnitsTime, supplementalOf, Rounded, AllRounded}

@@ -2,8 +2,8 @@
 -- Definitions only.
 use mathlib.Core.Path.{_≡_}
 use mathlib.Core.List.{List}
-use Prim.Native.Nat.{ℕ, _^_, _≤_, _<_}
-use Rattle.records.specs.Log.{Log, decode}
+use Prim.Native.Nat.{ℕ}
+use Rattle.records.specs.Log.{decode}
 use Rattle.rules.specs.declared.Refusal.{Refusal}
 use Rattle.rules.specs.declared.Verdict.the-variants.{Accepted, Refused}
 use Rattle.rules.specs.Verdict.{verdict}

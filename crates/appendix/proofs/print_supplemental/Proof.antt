@@ -1,6 +1,5 @@
 -- `appendix::print_supplemental` meets its contract: one of the two texts is written at the front. Assumes nothing.
 use borrow.Author.Needs.{needs}
-use lib.Dec.{lit≤}
 use native.Mathlib.Omega.{arith}
 use Rattle.appendix.proofs.Printed.{at-most-one, lines-printed, refusal-printed}
 use Rattle.appendix.proofs.print_supplemental.Statement.{statement}

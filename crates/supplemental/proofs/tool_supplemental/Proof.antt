@@ -1,6 +1,6 @@
 -- `supplemental::tool_supplemental` meets its contract: a refused log is answered with its refusal, and an accepted one is measured. Assumes nothing.
 use borrow.Author.Needs.{needs}
-use mathlib.Core.Path.{_≡_, sym, ap, _∙_}
+use mathlib.Core.Path.{sym, ap, _∙_}
 use Rattle.records.specs.Log.{decode}
 use Rattle.e79.specs.declared.Quantities.{Quantities}
 use Rattle.e79.specs.Quantities.{Ordered}
