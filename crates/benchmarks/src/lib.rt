@@ -11,8 +11,8 @@ use records::Header;
 use rules::Refusal;
 use rules::Verdict;
 
-// Times per unit in ms to measure a standard by, for each recipe: of the fastest tool of its kind, of the optimized recipe, of the part of the process that adds
-// value; and its total effective units, of which scrap and rework of other tools are taken off too.
+// What a standard is measured by: the ms that a unit takes on the fastest tool of the kind, by the optimized recipe, and in the steps that add value; and the total
+// effective units, from which scrap and rework of other tools are taken off too.
 pub struct Benchmark {
     pub reference: u64,
     pub optimized: u64,

@@ -124,7 +124,7 @@ fn walk_back(
 }
 
 // The last standard of the list, rising or not, that is the recipe's and starts at or before the time, or none. `last` leads to the recipe's last, past those of
-// other recipes behind it: nearly always that one has begun, and else the walk goes on from there.
+// other recipes behind it: nearly always that one has begun, and else the walk goes on from there. Not a buyer's call: the caller owes the listing.
 pub fn look_up(
     log: &[u8],
     h: Header,
@@ -241,7 +241,7 @@ fn list_standard(
     Verdict::Accepted
 }
 
-// All standards, one by one, up to the first that is refused.
+// All standards, one by one, up to the first that is refused. Not a buyer's call: the caller owes that they are all in the log, and arrays that start at zero.
 pub fn list_standards(
     log: &[u8],
     h: Header,
