@@ -1,4 +1,4 @@
-// A log read from the file that an argument names, or from standard input.
+// A log, or its benchmarks, read from the file that an argument names, or from standard input. What is said of a log here holds of both.
 ghost use mathlib.Core.Path.{_≡_};
 ghost use Prim.Native.Nat.{_≤_};
 ghost use lib.ListN.{length};

@@ -9,7 +9,7 @@ use Rattle.rules.specs.Names.{productive, standby, engineering, schedule
 use Rattle.rules.specs.Time.{stateTime}
 use Rattle.rules.specs.Theoretical.{theoreticalTime}
 
--- a quantity summed over the modules 0, 1, .. , n - 1
+-- a quantity summed over the modules, or the standards, 0, 1, .. , n - 1
 unfoldable pub sumBelow : (ℕ → ℕ) → ℕ → ℕ
 sumBelow q zero = 0
 sumBelow q (suc n) = sumBelow q n + q n

@@ -7,7 +7,7 @@ pub struct Placed {
     pub standard: Standard,
 }
 
-// list: 0 none, 1 states, 2 standards, 3 units, 4 benchmarks. place: the record's index from 0, or a module.
+// list: 0 none, 1 states, 2 standards, 3 units, 4 benchmarks. place: the record's or the benchmark's index from 0, or a module.
 pub struct Refusal {
     pub number: usize,
     pub list: usize,
