@@ -85,16 +85,16 @@ state-kind =
 -- ---- standard
 
 abbrev standard-of : List ℕ → Standard
-standard-of l = record { recipe = getD l 0 0; start = getD l 1 0; theoretical = getD l 2 0 }
+standard-of l = record { «module» = getD l 0 0; recipe = getD l 1 0; start = getD l 2 0; theoretical = getD l 3 0; spare = getD l 4 0 }
 
-pub standard-kind : Kind 9 standardFrom standardSlots
+pub standard-kind : Kind 10 standardFrom standardSlots
 unfolding standardFrom
 standard-kind =
     record {
       moved = standard-drop;
-      front = λ s. rw (field-take s 9 0 10 (omega arith), field-take s 9 10 35 (omega arith), field-take s 9 45 27 (omega arith));
+      front = λ s. rw (field-take s 10 0 6 (omega arith), field-take s 10 6 10 (omega arith), field-take s 10 16 35 (omega arith), field-take s 10 51 27 (omega arith), field-take s 10 78 2 (omega arith));
       again = λ t r e. ap standard-of e;
-      own = λ t. (refl, (refl, (refl, tt)));
+      own = λ t. (refl, (refl, (refl, (refl, (refl, tt)))));
       whole = λ r. refl;
     }
 

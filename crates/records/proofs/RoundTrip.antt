@@ -86,17 +86,17 @@ decodeBy h s =
 state-place : (s : List ℕ) (i : ℕ) → stateAt s i ≡ stateFrom s (8 * (10 + 6 * i))
 state-place s i = ap (stateFrom s) (omega arith)
 
-standard-place : (s : List ℕ) (h : Header) (i : ℕ) → standardAt s h i ≡ standardFrom s (8 * (10 + 6 * h .states + 9 * i))
+standard-place : (s : List ℕ) (h : Header) (i : ℕ) → standardAt s h i ≡ standardFrom s (8 * (10 + 6 * h .states + 10 * i))
 standard-place s h i = ap (standardFrom s) (omega arith)
 
-unit-place : (s : List ℕ) (h : Header) (i : ℕ) → unitAt s h i ≡ unitFrom s (8 * (10 + 6 * h .states + 9 * h .standards + 11 * i))
+unit-place : (s : List ℕ) (h : Header) (i : ℕ) → unitAt s h i ≡ unitFrom s (8 * (10 + 6 * h .states + 10 * h .standards + 11 * i))
 unit-place s h i = ap (unitFrom s) (omega arith)
 
 -- the length of a log
-pub length-encode : (l : Log) → length (encode l) ≡ 10 + 6 * length (l .states) + 9 * length (l .standards) + 11 * length (l .units)
+pub length-encode : (l : Log) → length (encode l) ≡ 10 + 6 * length (l .states) + 10 * length (l .standards) + 11 * length (l .units)
 unfolding encode
 length-encode l =
-    simp (length-append, length-packed, length-joined 6 stateSlots (l .states), length-joined 9 standardSlots (l .standards), length-joined 11 unitSlots (l .units)) (omega arith)
+    simp (length-append, length-packed, length-joined 6 stateSlots (l .states), length-joined 10 standardSlots (l .standards), length-joined 11 unitSlots (l .units)) (omega arith)
 
 -- the header of what is written counts the log's records
 pub header-encode : (l : Log) → Fit (headerSlots (headerFor l)) → headerOf (encode l) ≡ headerFor l
@@ -115,14 +115,14 @@ decode-encode l fit =
     let behind : drop 10 s ≡ states ++ (standards ++ units) = drop-at head _ 10 (length-packed 10 (headerSlots (headerFor l))) in
     let after : drop (10 + 6 * length (l .states)) s ≡ standards ++ units
     = sym (drop-drop (6 * length (l .states)) 10 s) ∙ rw behind (drop-at states _ (6 * length (l .states)) (length-joined 6 stateSlots (l .states))) in
-    let last : drop (10 + 6 * length (l .states) + 9 * length (l .standards)) s ≡ units ++ []
-    = sym (drop-drop (9 * length (l .standards)) (10 + 6 * length (l .states)) s)
-    ∙ rw (after, append-nil units) (drop-at standards _ (9 * length (l .standards)) (length-joined 9 standardSlots (l .standards))) in
+    let last : drop (10 + 6 * length (l .states) + 10 * length (l .standards)) s ≡ units ++ []
+    = sym (drop-drop (10 * length (l .standards)) (10 + 6 * length (l .states)) s)
+    ∙ rw (after, append-nil units) (drop-at standards _ (10 * length (l .standards)) (length-joined 10 standardSlots (l .standards))) in
     ap (λ (x : Header). decodeBy x s) (header-encode l (fit .header))
     ∙ rw (
       list-read state-kind (stateAt s) s 10 (state-place s) (l .states) (standards ++ units) behind (fit .states),
       list-read standard-kind (standardAt s (headerFor l)) s (10 + 6 * length (l .states)) (standard-place s (headerFor l)) (l .standards) units after (fit .standards),
-      list-read unit-kind (unitAt s (headerFor l)) s (10 + 6 * length (l .states) + 9 * length (l .standards)) (unit-place s (headerFor l)) (l .units) [] last (fit .units),
+      list-read unit-kind (unitAt s (headerFor l)) s (10 + 6 * length (l .states) + 10 * length (l .standards)) (unit-place s (headerFor l)) (l .units) [] last (fit .units),
     )
 
 -- s in four parts
@@ -138,7 +138,7 @@ parts s a b c e =
     )
 
 -- bytes of the length that their header gives are written again as they are; spare bits too
-pub encode-decode : (s : List ℕ) → ((k : ℕ) → getD s k 0 < 256) → length s ≡ 10 + 6 * headerOf s .states + 9 * headerOf s .standards + 11 * headerOf s .units → encode (decode s) ≡ s
+pub encode-decode : (s : List ℕ) → ((k : ℕ) → getD s k 0 < 256) → length s ≡ 10 + 6 * headerOf s .states + 10 * headerOf s .standards + 11 * headerOf s .units → encode (decode s) ≡ s
 unfolding decode encode
 encode-decode s small e =
     let h = headerOf s in
@@ -147,6 +147,6 @@ encode-decode s small e =
       rewritten header-kind s 0 small (omega arith),
       list-written state-kind (stateAt s) s 10 small (state-place s) (h .states) (omega arith),
       list-written standard-kind (standardAt s h) s (10 + 6 * h .states) small (standard-place s h) (h .standards) (omega arith),
-      list-written unit-kind (unitAt s h) s (10 + 6 * h .states + 9 * h .standards) small (unit-place s h) (h .units) (omega arith),
+      list-written unit-kind (unitAt s h) s (10 + 6 * h .states + 10 * h .standards) small (unit-place s h) (h .units) (omega arith),
     )
-    (parts s (6 * h .states) (9 * h .standards) (11 * h .units) e)
+    (parts s (6 * h .states) (10 * h .standards) (11 * h .units) e)

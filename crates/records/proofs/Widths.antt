@@ -21,7 +21,7 @@ state-fits s p = (field-lt s p 6, (field-lt s (p + 6) 5, (field-lt s (p + 11) 35
 
 pub standard-fits : (s : List ℕ) (p : ℕ) → Fit (standardSlots (standardFrom s p))
 unfolding standardFrom
-standard-fits s p = (field-lt s p 10, (field-lt s (p + 10) 35, (field-lt s (p + 45) 27, tt)))
+standard-fits s p = (field-lt s p 6, (field-lt s (p + 6) 10, (field-lt s (p + 16) 35, (field-lt s (p + 51) 27, (field-lt s (p + 78) 2, tt)))))
 
 pub unit-fits : (s : List ℕ) (p : ℕ) → Fit (unitSlots (unitFrom s p))
 unfolding unitFrom
@@ -50,6 +50,6 @@ decode-fits s =
     record {
       header = subst (λ (h : Header). Fit (headerSlots h)) (sym (header-counts s)) (header-fits s 0);
       states = fit-up-to stateSlots (stateAt s) (λ i. state-fits s (80 + 48 * i)) (h .states);
-      standards = fit-up-to standardSlots (standardAt s h) (λ i. standard-fits s (80 + 48 * h .states + 72 * i)) (h .standards);
-      units = fit-up-to unitSlots (unitAt s h) (λ i. unit-fits s (80 + 48 * h .states + 72 * h .standards + 88 * i)) (h .units);
+      standards = fit-up-to standardSlots (standardAt s h) (λ i. standard-fits s (80 + 48 * h .states + 80 * i)) (h .standards);
+      units = fit-up-to unitSlots (unitAt s h) (λ i. unit-fits s (80 + 48 * h .states + 80 * h .standards + 88 * i)) (h .units);
     }

@@ -22,7 +22,7 @@ abbrev pub stateSlots : StateRecord → List Slot
 stateSlots r = (6 wide r .«module») ∷ (5 wide r .code) ∷ (35 wide r .time) ∷ (2 wide r .spare) ∷ []
 
 abbrev pub standardSlots : Standard → List Slot
-standardSlots r = (10 wide r .recipe) ∷ (35 wide r .start) ∷ (27 wide r .theoretical) ∷ []
+standardSlots r = (6 wide r .«module») ∷ (10 wide r .recipe) ∷ (35 wide r .start) ∷ (27 wide r .theoretical) ∷ (2 wide r .spare) ∷ []
 
 abbrev pub unitSlots : UnitRecord → List Slot
 unitSlots r = (6 wide r .«module») ∷ (10 wide r .recipe) ∷ (35 wide r .time) ∷ (16 wide r .actual) ∷ (16 wide r .effective) ∷ (5 wide r .spare) ∷ []
@@ -34,7 +34,7 @@ abbrev pub stateBytes : StateRecord → List ℕ
 stateBytes r = packed 6 (stateSlots r)
 
 abbrev pub standardBytes : Standard → List ℕ
-standardBytes r = packed 9 (standardSlots r)
+standardBytes r = packed 10 (standardSlots r)
 
 abbrev pub unitBytes : UnitRecord → List ℕ
 unitBytes r = packed 11 (unitSlots r)

@@ -29,9 +29,16 @@ stateFrom s p =
       spare = field s (p + 46) 2;
     }
 
--- the standard of 72 bits from bit p on
+-- the standard of 80 bits from bit p on
 unfoldable pub standardFrom : List ℕ → ℕ → Standard
-standardFrom s p = record { recipe = field s p 10; start = field s (p + 10) 35; theoretical = field s (p + 45) 27 }
+standardFrom s p =
+    record {
+      «module» = field s p 6;
+      recipe = field s (p + 6) 10;
+      start = field s (p + 16) 35;
+      theoretical = field s (p + 51) 27;
+      spare = field s (p + 78) 2;
+    }
 
 -- the unit record of 88 bits from bit p on
 unfoldable pub unitFrom : List ℕ → ℕ → UnitRecord

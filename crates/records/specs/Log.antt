@@ -1,4 +1,4 @@
--- What the bytes of a log say: a header of 10 bytes, then the state records of 6 bytes each, the standards of 9 and the unit records of 11.
+-- What the bytes of a log say: a header of 10 bytes, then the state records of 6 bytes each, the standards of 10 and the unit records of 11.
 -- Definitions only.
 use Prim.Native.Nat.{ℕ, zero, suc, _+_, _*_}
 use mathlib.Core.List.{List, [], _∷_, _++_}
@@ -25,11 +25,11 @@ stateAt s i = stateFrom s (80 + 48 * i)
 
 -- standard i, behind as many state records as a header counts
 abbrev pub standardAt : List ℕ → Header → ℕ → Standard
-standardAt s h i = standardFrom s (80 + 48 * h .states + 72 * i)
+standardAt s h i = standardFrom s (80 + 48 * h .states + 80 * i)
 
 -- unit record i, behind as many state records and standards as a header counts
 abbrev pub unitAt : List ℕ → Header → ℕ → UnitRecord
-unitAt s h i = unitFrom s (80 + 48 * h .states + 72 * h .standards + 88 * i)
+unitAt s h i = unitFrom s (80 + 48 * h .states + 80 * h .standards + 88 * i)
 
 -- at 0, at 1, .. , at (n - 1)
 unfoldable pub upTo : {A : Type 0} → (ℕ → A) → ℕ → List A

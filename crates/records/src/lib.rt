@@ -25,11 +25,13 @@ pub struct StateRecord {
     pub spare: u64,
 }
 
-// A theoretical time per unit in ms, for a recipe, from a start on.
+// A theoretical time per unit in ms, for a module and a recipe, from a start on.
 pub struct Standard {
+    pub module: usize,
     pub recipe: usize,
     pub start: u64,
     pub theoretical: u64,
+    pub spare: u64,
 }
 
 // Units that a module made by a recipe, reported at a time.
@@ -70,14 +72,16 @@ fn state_in(word: u64) -> StateRecord
     }
 }
 
-// The standard whose first 45 bits are a word, and whose other 27 are the last ones of a second word.
+// The standard whose first 51 bits are a word, and whose other 29 are the last ones of a second word.
 fn standard_in(first: u64, second: u64) -> Standard
-    ensures { λ r. ⌜ ((s : List ℕ) (p q : ℕ) → first ≡ field s p 45 → second ≡ field s q 64 → q ≡ p + 8 → r ≡ standardFrom s p) ⌝ }
+    ensures { λ r. ⌜ ((s : List ℕ) (p q : ℕ) → first ≡ field s p 51 → second ≡ field s q 64 → q ≡ p + 16 → r ≡ standardFrom s p) ⌝ }
 {
     Standard {
+        module: (first / 0x2000_0000_0000 % 0x40) as usize,
         recipe: (first / 0x8_0000_0000 % 0x400) as usize,
         start: first % 0x8_0000_0000,
-        theoretical: second % 0x800_0000,
+        theoretical: second / 4 % 0x800_0000,
+        spare: second % 4,
     }
 }
 
@@ -114,12 +118,12 @@ fn place(byte: usize) -> usize
 
 // Standard i of a log with this header, where all of it is in the log.
 pub fn standard_within(log: &[u8], h: Header, i: usize) -> Standard
-    requires { ⌜ Covers (now log) (10 + 6 * h .states + 9 * i + 9) ⌝ }
+    requires { ⌜ Covers (now log) (10 + 6 * h .states + 10 * i + 10) ⌝ }
     ensures { λ r. ⌜ r ≡ standardAt (now (log .entry)) h i ⌝ }
 {
-    let at = place(10 + 6 * h.states + 9 * i);
-    let first = bits::read_word(log, 8 * at) / 0x8_0000;
-    let second = bits::read_word(log, 8 * (at + 1));
+    let at = place(10 + 6 * h.states + 10 * i);
+    let first = bits::read_word(log, 8 * at) / 0x2000;
+    let second = bits::read_word(log, 8 * (at + 2));
     standard_in(first, second)
 }
 
@@ -136,8 +140,8 @@ pub fn unit_from(log: &[u8], byte: usize) -> UnitRecord
 
 // Unit record i of a log with this header, where all of it is in the log.
 pub fn unit_within(log: &[u8], h: Header, i: usize) -> UnitRecord
-    requires { ⌜ Covers (now log) (10 + 6 * h .states + 9 * h .standards + 11 * i + 11) ⌝ }
+    requires { ⌜ Covers (now log) (10 + 6 * h .states + 10 * h .standards + 11 * i + 11) ⌝ }
     ensures { λ r. ⌜ r ≡ unitAt (now (log .entry)) h i ⌝ }
 {
-    unit_from(log, 10 + 6 * h.states + 9 * h.standards + 11 * i)
+    unit_from(log, 10 + 6 * h.states + 10 * h.standards + 11 * i)
 }

@@ -12,9 +12,11 @@ returns c = λ s p q a b e.
     rw (
       a,
       b,
-      cut-at s p 0 10 35 45 p (omega arith) (omega arith),
-      tail-at s p 10 35 45 (p + 10) (omega arith) (omega arith),
-      tail-at s q 37 27 64 (p + 45) (omega arith) (omega (arith, e)),
+      cut-at s p 0 6 45 51 p (omega arith) (omega arith),
+      cut-at s p 6 10 35 51 (p + 6) (omega arith) (omega arith),
+      tail-at s p 16 35 51 (p + 16) (omega arith) (omega arith),
+      cut-at s q 35 27 2 64 (p + 51) (omega arith) (omega (arith, e)),
+      tail-at s q 62 2 64 (p + 78) (omega arith) (omega (arith, e)),
     )
 
 pub standard-in-spec : {M : Type 1} → statement M

@@ -1,4 +1,4 @@
--- `records::standard_within` meets its contract: the first 45 bits are those of the eight bytes that it begins with, and the last 27 end the eight that it ends with. Assumes nothing.
+-- `records::standard_within` meets its contract: the first 51 bits are those of the eight bytes that it begins with, and the last 29 end the eight that it ends with. Assumes nothing.
 use borrow.Author.Needs.{needs}
 use native.Mathlib.Omega.{arith}
 use mathlib.Core.Path.{ap, _∙_}
@@ -13,7 +13,7 @@ returns c =
     let p = c .before .before .before in
     let a = p .before .before .before .args in
     let at = p .place .result in
-    c .standard-in .ensures (a .log .now) (8 * at) (8 * (at + 1)) (rw (c .before .before .read-word .ensures) (front (a .log .now) (8 * at) 45 19)) (c .before .read-word2 .ensures) (omega arith)
+    c .standard-in .ensures (a .log .now) (8 * at) (8 * (at + 2)) (rw (c .before .before .read-word .ensures) (front (a .log .now) (8 * at) 51 13)) (c .before .read-word2 .ensures) (omega arith)
     ∙ ap (standardFrom (a .log .now)) (omega (arith, p .place .ensures))
 
 pub standard-within-spec : {M : Type 1} → statement M
