@@ -49,14 +49,14 @@ module _ (a k : ℕ) where
 module _ (modules : ℕ) (ss : List Standard) where
   abbrev pub Passed : List UnitRecord → Type 0
   Passed [] = Unit {0}
-  Passed (u ∷ us) = (u .«module» < modules) × (isNone (inForce ss (u .recipe) (u .time)) ≡ false) × Passed us
+  Passed (u ∷ us) = (u .«module» < modules) × (isNone (inForce ss (u .«module») (u .recipe) (u .time)) ≡ false) × Passed us
 
   passed-one : (period i : ℕ) (earlier : List UnitRecord) (u : UnitRecord) → unitGround period modules ss earlier i u ≡ Accepted
-      → (u .«module» < modules) × (isNone (inForce ss (u .recipe) (u .time)) ≡ false)
+      → (u .«module» < modules) × (isNone (inForce ss (u .«module») (u .recipe) (u .time)) ≡ false)
   unfolding unitGround
   passed-one period i earlier u e =
       let stray = leb modules (u .«module») in
-      let nothing = isNone (inForce ss (u .recipe) (u .time)) in
+      let nothing = isNone (inForce ss (u .«module») (u .recipe) (u .time)) in
       let e7 = then-right (ground 6 3 i (not (eqb (u .spare) 0))) _ e in
       let e9 = then-right (ground 7 3 i stray) _ e7 in
       let e14 = then-right (ground 9 3 i (leb period (u .time))) _ e9 in
@@ -80,9 +80,9 @@ module _ (at : ℕ → Standard) (n : ℕ) where
   abbrev listed : List Standard
   listed = upTo at n
 
-  one-time : (recipe time a : ℕ) (o : Option Placed) → Answers at n recipe time o → isNone o ≡ false → sumBelow (λ i. cond (isAt i o) a 0 * at i .theoretical) n ≡ a * timeOf o
-  one-time recipe time a none f e = let z : _≡_ {A = ℕ} 0 1 = cc in absurd (omega arith)
-  one-time recipe time a (some p) f e = sum-same _ _ n (λ i l. same i (ℕ-discrete (p .index) i)) ∙ once (a * p .standard .theoretical) (p .index) n (f .listed)
+  one-time : (m recipe time a : ℕ) (o : Option Placed) → Answers at n m recipe time o → isNone o ≡ false → sumBelow (λ i. cond (isAt i o) a 0 * at i .theoretical) n ≡ a * timeOf o
+  one-time m recipe time a none f e = let z : _≡_ {A = ℕ} 0 1 = cc in absurd (omega arith)
+  one-time m recipe time a (some p) f e = sum-same _ _ n (λ i l. same i (ℕ-discrete (p .index) i)) ∙ once (a * p .standard .theoretical) (p .index) n (f .listed)
     where
       same : (i : ℕ) → Dec (p .index ≡ i) → cond (eqb (p .index) i) a 0 * at i .theoretical ≡ cond (eqb (p .index) i) (a * p .standard .theoretical) 0
       same i (yes q) = rw (eq-eqb (p .index) i q, ← q, f .same)
@@ -94,7 +94,7 @@ module _ (at : ℕ → Standard) (n : ℕ) where
     -- units times the time in force, over all unit records
     unfoldable whole : List UnitRecord → ℕ
     whole [] = 0
-    whole (u ∷ us) = units u * timeOf (inForce listed (u .recipe) (u .time)) + whole us
+    whole (u ∷ us) = units u * timeOf (inForce listed (u .«module») (u .recipe) (u .time)) + whole us
 
     over-standards : (us : List UnitRecord) → Passed modules listed us → sumBelow (λ i. unitsJudged units listed us i * at i .theoretical) n ≡ whole us
     unfolding unitsJudged judgedBy whole
@@ -102,14 +102,14 @@ module _ (at : ℕ → Standard) (n : ℕ) where
     over-standards (u ∷ us) p =
         sum-same _ _ n (λ i l. add-mul _ (unitsJudged units listed us i) (at i .theoretical))
         ∙ sym (sum-add _ (λ i. unitsJudged units listed us i * at i .theoretical) n)
-        ∙ ap₂ _+_ (one-time (u .recipe) (u .time) (units u) (inForce listed (u .recipe) (u .time)) (in-force at (u .recipe) (u .time) n) (p .1)) (over-standards us (p .2))
+        ∙ ap₂ _+_ (one-time (u .«module») (u .recipe) (u .time) (units u) (inForce listed (u .«module») (u .recipe) (u .time)) (in-force at (u .«module») (u .recipe) (u .time) n) (p .1)) (over-standards us (p .2))
 
     over-modules : (us : List UnitRecord) → Passed modules listed us → sumBelow (theoreticalTime units listed us) modules ≡ whole us
     unfolding theoreticalTime credit whole
     over-modules [] p = sum-each 0 modules ∙ zero-mul modules
     over-modules (u ∷ us) p =
         sym (sum-add _ (theoreticalTime units listed us) modules)
-        ∙ ap₂ _+_ (once (units u * timeOf (inForce listed (u .recipe) (u .time))) (u .«module») modules (p .0)) (over-modules us (p .2))
+        ∙ ap₂ _+_ (once (units u * timeOf (inForce listed (u .«module») (u .recipe) (u .time))) (u .«module») modules (p .0)) (over-modules us (p .2))
 
     -- judged units times their standards' times make the theoretical time of all modules
     pub judged-time : (us : List UnitRecord) → Passed modules listed us

@@ -51,8 +51,10 @@ states-below b r f g =
 
 pub standards-below : (b s : Standard) → StandardFits b → StandardFits s → isBelow (standardKey b) (standardKey s) ≡ ltb (standardNumber b) (standardNumber s)
 standards-below b s f g =
-    below-more (2 ^ 35) (b .recipe) (s .recipe) (b .start) (s .start) _ _ (f .1) (g .1) (below-one (b .start) (s .start))
-    ∙ raised (2 ^ 35) (b .recipe * 2 ^ 35 + b .start) (s .recipe * 2 ^ 35 + s .start) (standardNumber b) (standardNumber s) (omega arith) (omega arith)
+    let pair : (v : Standard) → StandardFits v → v .recipe * 2 ^ 35 + v .start < 2 ^ 45 = λ v h. omega (arith, h .1, h .2) in
+    below-more (2 ^ 45) (b .«module») (s .«module») (b .recipe * 2 ^ 35 + b .start) (s .recipe * 2 ^ 35 + s .start) _ _ (pair b f) (pair s g)
+    (below-more (2 ^ 35) (b .recipe) (s .recipe) (b .start) (s .start) _ _ (f .2) (g .2) (below-one (b .start) (s .start)))
+    ∙ raised (2 ^ 35) (b .«module» * 2 ^ 45 + (b .recipe * 2 ^ 35 + b .start)) (s .«module» * 2 ^ 45 + (s .recipe * 2 ^ 35 + s .start)) (standardNumber b) (standardNumber s) (omega arith) (omega arith)
 
 pub units-below : (b u : UnitRecord) → UnitFits b → UnitFits u → isBelow (unitKey b) (unitKey u) ≡ ltb (unitNumber b) (unitNumber u)
 units-below b u f g =

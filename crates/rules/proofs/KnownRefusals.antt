@@ -82,10 +82,12 @@ known-states period modules rs =
     known-turn logRefusals (stateGround period modules) [] 0 rs (known-state period modules)
     and known-first logRefusals (openingGround rs) modules (λ m. ruled 11 0 m (not (isOpening (firstTime m rs))) tt)
 
-known-standard : (period : ℕ) (earlier : List Standard) (i : ℕ) (s : Standard) → AllKnown logRefusals (standardGround period earlier i s)
+known-standard : (period modules : ℕ) (earlier : List Standard) (i : ℕ) (s : Standard) → AllKnown logRefusals (standardGround period modules earlier i s)
 unfolding standardGround
-known-standard period earlier i s =
-    ruled 9 2 i (leb period (s .start)) tt
+known-standard period modules earlier i s =
+    ruled 6 2 i (not (eqb (s .spare) 0)) tt
+    and ruled 7 2 i (leb modules (s .«module»)) tt
+    and ruled 9 2 i (leb period (s .start)) tt
     and ruled 12 2 i (eqb (s .theoretical) 0) tt
     and ruled 13 2 i (isAmong s earlier) tt
     and ruled 19 2 i (not (isAfter standardKey (justBefore earlier) s)) tt
@@ -97,14 +99,14 @@ known-unit period modules ss earlier i u =
     and ruled 7 3 i (leb modules (u .«module»)) tt
     and ruled 9 3 i (leb period (u .time)) tt
     and ruled 14 3 i (ltb (u .actual) (u .effective)) tt
-    and ruled 15 3 i (isNone (inForce ss (u .recipe) (u .time))) tt
+    and ruled 15 3 i (isNone (inForce ss (u .«module») (u .recipe) (u .time))) tt
     and ruled 19 3 i (not (isAfter unitKey (justBefore earlier) u)) tt
 
 known-records : (l : Log) → AllKnown logRefusals (recordGrounds l)
 unfolding recordGrounds standardGrounds unitGrounds sumGrounds fastGround
 known-records l =
     known-states (l .period) (l .modules) (l .states)
-    and known-turn logRefusals (standardGround (l .period)) [] 0 (l .standards) (known-standard (l .period))
+    and known-turn logRefusals (standardGround (l .period) (l .modules)) [] 0 (l .standards) (known-standard (l .period) (l .modules))
     and known-turn logRefusals (unitGround (l .period) (l .modules) (l .standards)) [] 0 (l .units) (known-unit (l .period) (l .modules) (l .standards))
     and known-first logRefusals (fastGround l) (l .modules) (λ m. ruled 16 0 m (ltb (timeIn l 0 m) (actualTime l m)) tt)
     and ruled 17 0 0 (anyOver (ofTool l) || anyTimeOver (toolTimes l)) tt

@@ -12,3 +12,4 @@ pub mod SameBytes
 pub mod Given
 pub mod SumLaws
 pub mod Judged
+pub mod OwnStandards

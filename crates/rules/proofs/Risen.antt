@@ -35,14 +35,16 @@ state-after period modules earlier i r e =
     let own = isNotAfter (r .time) (ownTime (r .«module») earlier) in
     not-false after (or-left (not after) own (not-met 10 1 i (not after || own) d))
 
-pub standard-after : (period : ℕ) (earlier : List Standard) (i : ℕ) (s : Standard) → standardGround period earlier i s ≡ Accepted → isAfter standardKey (justBefore earlier) s ≡ true
+pub standard-after : (period modules : ℕ) (earlier : List Standard) (i : ℕ) (s : Standard) → standardGround period modules earlier i s ≡ Accepted → isAfter standardKey (justBefore earlier) s ≡ true
 unfolding standardGround
-standard-after period earlier i s e =
-    let a = then-right (ground 9 2 i (leb period (s .start))) _ e in
-    let b = then-right (ground 12 2 i (eqb (s .theoretical) 0)) _ a in
-    let c = then-right (ground 13 2 i (isAmong s earlier)) _ b in
+standard-after period modules earlier i s e =
+    let a = then-right (ground 6 2 i (not (eqb (s .spare) 0))) _ e in
+    let b = then-right (ground 7 2 i (leb modules (s .«module»))) _ a in
+    let c = then-right (ground 9 2 i (leb period (s .start))) _ b in
+    let d = then-right (ground 12 2 i (eqb (s .theoretical) 0)) _ c in
+    let f = then-right (ground 13 2 i (isAmong s earlier)) _ d in
     let after = isAfter standardKey (justBefore earlier) s in
-    not-false after (not-met 19 2 i (not after) c)
+    not-false after (not-met 19 2 i (not after) f)
 
 pub unit-after : (period modules : ℕ) (ss : List Standard) (earlier : List UnitRecord) (i : ℕ) (u : UnitRecord) → unitGround period modules ss earlier i u ≡ Accepted → isAfter unitKey (justBefore earlier) u ≡ true
 unfolding unitGround
@@ -51,7 +53,7 @@ unit-after period modules ss earlier i u e =
     let b = then-right (ground 7 3 i (leb modules (u .«module»))) _ a in
     let c = then-right (ground 9 3 i (leb period (u .time))) _ b in
     let d = then-right (ground 14 3 i (ltb (u .actual) (u .effective))) _ c in
-    let f = then-right (ground 15 3 i (isNone (inForce ss (u .recipe) (u .time)))) _ d in
+    let f = then-right (ground 15 3 i (isNone (inForce ss (u .«module») (u .recipe) (u .time)))) _ d in
     let after = isAfter unitKey (justBefore earlier) u in
     not-false after (not-met 19 3 i (not after) f)
 
@@ -72,9 +74,9 @@ states-rise period modules rs e =
     turn-rising stateKey (stateGround period modules) (state-after period modules) [] 0 rs
     (then-left (inTurn (stateGround period modules) [] 0 rs) (firstOf (openingGround rs) modules) e)
 
-pub standards-rise : (period : ℕ) (ss : List Standard) → standardGrounds period ss ≡ Accepted → isRising standardKey ss ≡ true
+pub standards-rise : (period modules : ℕ) (ss : List Standard) → standardGrounds period modules ss ≡ Accepted → isRising standardKey ss ≡ true
 unfolding standardGrounds justBefore
-standards-rise period ss e = turn-rising standardKey (standardGround period) (standard-after period) [] 0 ss e
+standards-rise period modules ss e = turn-rising standardKey (standardGround period modules) (standard-after period modules) [] 0 ss e
 
 pub units-rise : (period modules : ℕ) (ss : List Standard) (us : List UnitRecord) → unitGrounds period modules ss us ≡ Accepted → isRising unitKey us ≡ true
 unfolding unitGrounds justBefore
@@ -85,7 +87,7 @@ units-rise period modules ss us e = turn-rising unitKey (unitGround period modul
 -- each list of an accepted log is accepted
 pub record ListsAccepted (l : Log) : Type 0 where
   pub states : stateGrounds (l .period) (l .modules) (l .states) ≡ Accepted
-  pub standards : standardGrounds (l .period) (l .standards) ≡ Accepted
+  pub standards : standardGrounds (l .period) (l .modules) (l .standards) ≡ Accepted
   pub units : unitGrounds (l .period) (l .modules) (l .standards) (l .units) ≡ Accepted
 
 pub lists-accepted : (s : List ℕ) → verdict s ≡ Accepted → ListsAccepted (decode s)
@@ -93,7 +95,7 @@ unfolding verdict recordGrounds
 lists-accepted s e =
     let l = decode s in
     let states = stateGrounds (l .period) (l .modules) (l .states) in
-    let standards = standardGrounds (l .period) (l .standards) in
+    let standards = standardGrounds (l .period) (l .modules) (l .standards) in
     let units = unitGrounds (l .period) (l .modules) (l .standards) (l .units) in
     let a : recordGrounds l ≡ Accepted = then-right (headerGrounds s) _ e in
     let b : standards then units then sumGrounds l ≡ Accepted = then-right states _ a in
@@ -105,11 +107,11 @@ risen s e =
     let a = lists-accepted s e in
     record {
       states = states-rise (l .period) (l .modules) (l .states) (a .states);
-      standards = standards-rise (l .period) (l .standards) (a .standards);
+      standards = standards-rise (l .period) (l .modules) (l .standards) (a .standards);
       units = units-rise (l .period) (l .modules) (l .standards) (l .units) (a .units);
     }
 
-pub whole-length : (s : List ℕ) → verdict s ≡ Accepted → length s ≡ 10 + 6 * headerOf s .states + 9 * headerOf s .standards + 11 * headerOf s .units
+pub whole-length : (s : List ℕ) → verdict s ≡ Accepted → length s ≡ 10 + 6 * headerOf s .states + 10 * headerOf s .standards + 11 * headerOf s .units
 unfolding verdict headerGrounds
 whole-length s e =
     let h = headerOf s in
@@ -118,5 +120,5 @@ whole-length s e =
     let c = then-right (ground 2 0 0 (badPeriod (h .period))) _ b in
     let d = then-right (ground 3 0 0 (badModules (h .modules))) _ c in
     let f = then-right (ground 4 0 0 (badCounts h)) _ d in
-    let n = 10 + 6 * h .states + 9 * h .standards + 11 * h .units in
+    let n = 10 + 6 * h .states + 10 * h .standards + 11 * h .units in
     eqb-true (length s) n (not-false (eqb (length s) n) (not-met 5 0 0 (badLength (length s) h) f))

@@ -15,6 +15,7 @@ use Rattle.records.specs.Log.{upTo}
 use Rattle.records.proofs.UpTo.{length-up-to, up-to-at}
 use Rattle.records.specs.declared.StateRecord.{StateRecord}
 use Rattle.records.specs.declared.Standard.{Standard}
+use Rattle.rules.specs.Theoretical.{For}
 use Rattle.rules.specs.Sequence.{isBelow, justBefore, isAfter, isRisingAfter, isRising, stateKey, standardKey}
 use Rattle.rules.proofs.Booleans.{false-true, both, either, or-true, and-true, and-assoc}
 
@@ -80,18 +81,25 @@ time-above q r e h = go (lower (q .time) (r .time) (q .«module» ∷ []) (r .«
     go (inl x) = x
     go (inr x) = absurd (last (lower (q .«module») (r .«module») [] [] (x .1)))
 
--- of two standards of a recipe, the one with the key above starts later
-pub start-above : (b s : Standard) → b .recipe ≡ s .recipe → isBelow (standardKey b) (standardKey s) ≡ true → b .start < s .start
-unfolding isBelow Lower
-start-above b s e h = go (lower (b .recipe) (s .recipe) (b .start ∷ []) (s .start ∷ []) h)
+-- of two keys with the same number in front, the rest of the one above is above
+below-rest : (a b : ℕ) (j k : List ℕ) → a ≡ b → isBelow (a ∷ j) (b ∷ k) ≡ true → isBelow j k ≡ true
+unfolding Lower
+below-rest a b j k e h = go (lower a b j k h)
   where
-    last : Lower (b .start) (s .start) [] [] → b .start < s .start
-    last (inl x) = x
-    last (inr x) = absurd (false-true (x .1))
-
-    go : Lower (b .recipe) (s .recipe) (b .start ∷ []) (s .start ∷ []) → b .start < s .start
+    go : Lower a b j k → isBelow j k ≡ true
     go (inl x) = absurd (omega (arith, e))
-    go (inr x) = last (lower (b .start) (s .start) [] [] (x .1))
+    go (inr x) = x .1
+
+-- of two standards for a module and a recipe, the one with the key above starts later
+pub start-above : (b s : Standard) → For (s .«module») (s .recipe) b → isBelow (standardKey b) (standardKey s) ≡ true → b .start < s .start
+unfolding isBelow Lower
+start-above b s e h =
+    let rest : isBelow (b .recipe ∷ b .start ∷ []) (s .recipe ∷ s .start ∷ []) ≡ true = below-rest (b .«module») (s .«module») (b .recipe ∷ b .start ∷ []) (s .recipe ∷ s .start ∷ []) (e .0) h in
+    go (lower (b .start) (s .start) [] [] (below-rest (b .recipe) (s .recipe) (b .start ∷ []) (s .start ∷ []) (e .1) rest))
+  where
+    go : Lower (b .start) (s .start) [] [] → b .start < s .start
+    go (inl x) = x
+    go (inr x) = absurd (false-true (x .1))
 
 -- ---- rising lists
 

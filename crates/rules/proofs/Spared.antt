@@ -1,5 +1,5 @@
 -- What the rising sequence spares a pass over a list: where the records so far rise and one is after the last of them, it is later than its own module's last,
--- and its recipe and start are no earlier standard's. So one comparison decides, and only a record that breaks the sequence needs a search for 13.
+-- and its module, recipe and start are no earlier standard's. So one comparison decides, and only a record that breaks the sequence needs a search for 13.
 -- Assumes nothing.
 use mathlib.Core.Path.{_≡_, refl, sym}
 use mathlib.Core.Bool.{Bool, true, false, _&&_, _||_, cond}
@@ -12,8 +12,10 @@ use borrow.Author.Tests.{eqb-true, lt-leb}
 use Rattle.records.specs.declared.StateRecord.{StateRecord}
 use Rattle.records.specs.declared.Standard.{Standard}
 use Rattle.rules.specs.Sequence.{justBefore, isAfter, isRising, stateKey, standardKey}
+use Rattle.rules.specs.Theoretical.{isFor}
 use Rattle.rules.specs.RecordGrounds.{ownTime, isNotAfter, isAmong}
 use Rattle.rules.proofs.Booleans.{both}
+use Rattle.rules.proofs.InForce.{for-true}
 use Rattle.rules.proofs.Sequence.{AllBelow, rising-below, time-above, start-above}
 
 own-later : (r : StateRecord) (found : Option ℕ) (rs : List StateRecord) → isNotAfter (r .time) found ≡ false → AllBelow stateKey (stateKey r) rs
@@ -34,12 +36,12 @@ later-than-own earlier r e h = own-later r none earlier refl (rising-below state
 
 none-among : (s : Standard) (es : List Standard) → AllBelow standardKey (standardKey s) es → isAmong s es ≡ false
 none-among s [] b = refl
-none-among s (e ∷ es) b = step (eqb (s .recipe) (e .recipe) && eqb (s .start) (e .start)) refl (none-among s es (b .1))
+none-among s (e ∷ es) b = step (isFor (s .«module») (s .recipe) e && eqb (e .start) (s .start)) refl (none-among s es (b .1))
   where
-    step : (c : Bool) → eqb (s .recipe) (e .recipe) && eqb (s .start) (e .start) ≡ c → isAmong s es ≡ false → c || isAmong s es ≡ false
+    step : (c : Bool) → isFor (s .«module») (s .recipe) e && eqb (e .start) (s .start) ≡ c → isAmong s es ≡ false → c || isAmong s es ≡ false
     step true q rest =
-        let p = both (eqb (s .recipe) (e .recipe)) (eqb (s .start) (e .start)) q in
-        absurd (omega (arith, start-above e s (sym (eqb-true (s .recipe) (e .recipe) (p .0))) (b .0), eqb-true (s .start) (e .start) (p .1)))
+        let p = both (isFor (s .«module») (s .recipe) e) (eqb (e .start) (s .start)) q in
+        absurd (omega (arith, start-above e s (for-true (s .«module») (s .recipe) e (p .0)) (b .0), eqb-true (e .start) (s .start) (p .1)))
     step false q rest = rest
 
 pub not-among : (earlier : List Standard) (s : Standard) → isRising standardKey earlier ≡ true → isAfter standardKey (justBefore earlier) s ≡ true → isAmong s earlier ≡ false

@@ -24,10 +24,10 @@ abbrev pub StateFits : StateRecord → Type 0
 StateFits r = (r .«module» < 64) × (r .time < 2 ^ 35)
 
 abbrev pub standardNumber : Standard → ℕ
-standardNumber s = (s .recipe + 1) * 2 ^ 35 + s .start
+standardNumber s = (s .«module» * 1024 + s .recipe + 1) * 2 ^ 35 + s .start
 
 abbrev pub StandardFits : Standard → Type 0
-StandardFits s = (s .recipe < 1024) × (s .start < 2 ^ 35)
+StandardFits s = (s .«module» < 64) × (s .recipe < 1024) × (s .start < 2 ^ 35)
 
 abbrev pub unitNumber : UnitRecord → ℕ
 unitNumber u = ((u .time + 1) * 64 + u .«module») * 1024 + u .recipe

@@ -13,7 +13,7 @@ use Rattle.rules.specs.declared.Verdict.{Verdict}
 use Rattle.rules.specs.Grounds.{ground, _then_, firstOf, eachOf, inTurn}
 use Rattle.rules.specs.Names.{noList, ofStates, ofStandards, ofUnits}
 use Rattle.rules.specs.Sequence.{justBefore, isBelow, isAfter, stateKey, standardKey, unitKey}
-use Rattle.rules.specs.Theoretical.{inForce}
+use Rattle.rules.specs.Theoretical.{isFor, inForce}
 
 -- ---- the state records
 
@@ -56,22 +56,24 @@ stateGrounds period modules rs = eachOf (stateGround period modules) rs then fir
 
 -- ---- the standards
 
--- a standard of the list has this recipe and this start
+-- a standard of the list has this module, this recipe and this start
 abbrev pub isAmong : Standard → List Standard → Bool
 isAmong s [] = false
-isAmong s (e ∷ es) = (eqb (s .recipe) (e .recipe) && eqb (s .start) (e .start)) || isAmong s es
+isAmong s (e ∷ es) = (isFor (s .«module») (s .recipe) e && eqb (e .start) (s .start)) || isAmong s es
 
-unfoldable pub standardGround : ℕ → List Standard → ℕ → Standard → Verdict
+unfoldable pub standardGround : ℕ → ℕ → List Standard → ℕ → Standard → Verdict
 unfolding justBefore isBelow
-standardGround period earlier i s =
-    ground 9 ofStandards i (leb period (s .start))
+standardGround period modules earlier i s =
+    ground 6 ofStandards i (not (eqb (s .spare) 0))
+    then ground 7 ofStandards i (leb modules (s .«module»))
+    then ground 9 ofStandards i (leb period (s .start))
     then ground 12 ofStandards i (eqb (s .theoretical) 0)
     then ground 13 ofStandards i (isAmong s earlier)
     then ground 19 ofStandards i (not (isAfter standardKey (justBefore earlier) s))
 
-unfoldable pub standardGrounds : ℕ → List Standard → Verdict
+unfoldable pub standardGrounds : ℕ → ℕ → List Standard → Verdict
 unfolding standardGround inTurn
-standardGrounds period ss = eachOf (standardGround period) ss
+standardGrounds period modules ss = eachOf (standardGround period modules) ss
 
 -- ---- the unit records
 
@@ -86,7 +88,7 @@ unitGround period modules ss earlier i u =
     then ground 7 ofUnits i (leb modules (u .«module»))
     then ground 9 ofUnits i (leb period (u .time))
     then ground 14 ofUnits i (ltb (u .actual) (u .effective))
-    then ground 15 ofUnits i (isNone (inForce ss (u .recipe) (u .time)))
+    then ground 15 ofUnits i (isNone (inForce ss (u .«module») (u .recipe) (u .time)))
     then ground 19 ofUnits i (not (isAfter unitKey (justBefore earlier) u))
 
 unfoldable pub unitGrounds : ℕ → ℕ → List Standard → List UnitRecord → Verdict

@@ -22,7 +22,7 @@ abbrev pub logRefusals : List Row
 logRefusals =
     row 1 noList ∷ row 2 noList ∷ row 3 noList ∷ row 4 noList ∷ row 5 noList
     ∷ row 6 ofStates ∷ row 7 ofStates ∷ row 8 ofStates ∷ row 9 ofStates ∷ row 10 ofStates ∷ row 11 noList
-    ∷ row 9 ofStandards ∷ row 12 ofStandards ∷ row 13 ofStandards ∷ row 19 ofStandards
+    ∷ row 6 ofStandards ∷ row 7 ofStandards ∷ row 9 ofStandards ∷ row 12 ofStandards ∷ row 13 ofStandards ∷ row 19 ofStandards
     ∷ row 6 ofUnits ∷ row 7 ofUnits ∷ row 9 ofUnits ∷ row 14 ofUnits ∷ row 15 ofUnits ∷ row 19 ofUnits
     ∷ row 16 noList ∷ row 17 noList ∷ []
 

@@ -40,9 +40,9 @@ isRising key rs = isRisingAfter key none rs
 abbrev pub stateKey : StateRecord → List ℕ
 stateKey r = r .time ∷ r .«module» ∷ []
 
--- standards by recipe, then start
+-- standards by module, then recipe, then start
 abbrev pub standardKey : Standard → List ℕ
-standardKey s = s .recipe ∷ s .start ∷ []
+standardKey s = s .«module» ∷ s .recipe ∷ s .start ∷ []
 
 -- unit records by time, then module, then recipe
 abbrev pub unitKey : UnitRecord → List ℕ

@@ -29,7 +29,7 @@ badCounts h = ltb 6000 (h .states) || (ltb 512 (h .standards) || ltb 2000 (h .un
 
 -- the length is that of the header and its counts
 abbrev pub badLength : ℕ → Header → Bool
-badLength size h = not (eqb size (10 + 6 * h .states + 9 * h .standards + 11 * h .units))
+badLength size h = not (eqb size (10 + 6 * h .states + 10 * h .standards + 11 * h .units))
 
 -- no header, period, modules, counts, length
 unfoldable pub headerGrounds : List ℕ → Verdict
@@ -67,7 +67,7 @@ unfoldable pub recordGrounds : Log → Verdict
 unfolding stateGrounds standardGrounds unitGrounds sumGrounds
 recordGrounds l =
     stateGrounds (l .period) (l .modules) (l .states)
-    then standardGrounds (l .period) (l .standards)
+    then standardGrounds (l .period) (l .modules) (l .standards)
     then unitGrounds (l .period) (l .modules) (l .standards) (l .units)
     then sumGrounds l
 
