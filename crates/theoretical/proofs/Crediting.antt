@@ -34,7 +34,7 @@ use Rattle.theoretical.specs.Credits.{ownGrounds, SumsSoFar, OneUnit, Al
 module _ (s : List ℕ) (h : Header) (i : ℕ) (u : UnitRecord) (e : u ≡ unitAt s h i) where
   pub unit-widths : (u .«module» < 64) × (u .recipe < 1024) × (u .time < 2 ^ 35) × (u .actual < 65536) × (u .effective < 65536)
   unit-widths =
-      let f = unit-fits s (80 + 48 * h .states + 72 * h .standards + 88 * i) in
+      let f = unit-fits s (80 + 48 * h .states + 80 * h .standards + 88 * i) in
       rw e (f .0, f .1 .0, f .1 .1 .0, f .1 .1 .1 .0, f .1 .1 .1 .1 .0)
 
 -- one unit record's credit is below 2 ^ 43
@@ -49,7 +49,7 @@ module _ (f : UnitRecord → ℕ) (ss : List Standard) where
   total-more [] u m = omega arith
   total-more (v ∷ us) u m = rw (total-more us u m) (sym (add-assoc (credit f ss m v) (theoreticalTime f ss us m) (credit f ss m u)))
 
-  credit-own : (u : UnitRecord) (p : Placed) (m : ℕ) → u .«module» ≡ m → inForce ss (u .recipe) (u .time) ≡ some p → credit f ss m u ≡ f u * p .standard .theoretical
+  credit-own : (u : UnitRecord) (p : Placed) (m : ℕ) → u .«module» ≡ m → inForce ss (u .«module») (u .recipe) (u .time) ≡ some p → credit f ss m u ≡ f u * p .standard .theoretical
   unfolding credit
   credit-own u p m e i = rw (eq-eqb (u .«module») m e, i)
 
@@ -57,7 +57,7 @@ module _ (f : UnitRecord → ℕ) (ss : List Standard) where
   unfolding credit
   credit-other u m ne = rw (ne-eqb (u .«module») m ne)
 
-  module _ (us : List UnitRecord) (u : UnitRecord) (p : Placed) (A : List ℕ) (len : length A ≡ 64) (low : u .«module» < 64) (found : inForce ss (u .recipe) (u .time) ≡ some p) where
+  module _ (us : List UnitRecord) (u : UnitRecord) (p : Placed) (A : List ℕ) (len : length A ≡ 64) (low : u .«module» < 64) (found : inForce ss (u .«module») (u .recipe) (u .time) ≡ some p) where
     pub sum-more : ((m : ℕ) → m < 64 → getD A m 0 ≡ theoreticalTime f ss us m)
         → (m : ℕ) → m < 64 → getD (set A (u .«module») (getD A (u .«module») 0 + f u * p .standard .theoretical)) m 0 ≡ theoreticalTime f ss (us ++ (u ∷ [])) m
     sum-more h m l =
@@ -79,7 +79,7 @@ module _ (f : UnitRecord → ℕ) (ss : List Standard) where
 
 -- 15 and 19, behind the tests that look at the record alone
 abbrev last-tests : List Standard → List UnitRecord → ℕ → UnitRecord → Verdict
-last-tests ss us i u = ground 15 3 i (isNone (inForce ss (u .recipe) (u .time))) then ground 19 3 i (not (isAfter unitKey (justBefore us) u))
+last-tests ss us i u = ground 15 3 i (isNone (inForce ss (u .«module») (u .recipe) (u .time))) then ground 19 3 i (not (isAfter unitKey (justBefore us) u))
 
 own-then : (period modules : ℕ) (ss : List Standard) (us : List UnitRecord) (i : ℕ) (u : UnitRecord) → unitGround period modules ss us i u ≡ ownGrounds period modules i u then last-tests ss us i u
 unfolding unitGround ownGrounds
@@ -102,10 +102,10 @@ module _ (period modules : ℕ) (ss : List Standard) (at : ℕ → UnitRecord) (
   unit-refused : (x : Refusal) (w : Verdict) → w ≡ Refused x → v ≡ Accepted → last-tests ss (upTo at i) i u ≡ Refused x → (before : ℕ) (A E : List ℕ) → OneUnit period modules ss at i w before A E
   unit-refused x w ew e h before A E = record { answer = ew ∙ sym (decided e ∙ h); sequenced = λ f. absurd (refused-not (sym ew ∙ f)); summed = λ f. absurd (refused-not (sym ew ∙ f)) }
 
-  pub unit-none : v ≡ Accepted → inForce ss (u .recipe) (u .time) ≡ none → (w : Verdict) → w ≡ Refused (record { number = 15; list = 3; place = i }) → (before : ℕ) (A E : List ℕ) → OneUnit period modules ss at i w before A E
+  pub unit-none : v ≡ Accepted → inForce ss (u .«module») (u .recipe) (u .time) ≡ none → (w : Verdict) → w ≡ Refused (record { number = 15; list = 3; place = i }) → (before : ℕ) (A E : List ℕ) → OneUnit period modules ss at i w before A E
   unit-none e h w ew = unit-refused _ w ew e (rw h)
 
-  module _ (e : v ≡ Accepted) (p : Placed) (h : inForce ss (u .recipe) (u .time) ≡ some p) (before : ℕ) (q : UnitsSequenced (upTo at i) before) (fits : UnitFits u) where
+  module _ (e : v ≡ Accepted) (p : Placed) (h : inForce ss (u .«module») (u .recipe) (u .time) ≡ some p) (before : ℕ) (q : UnitsSequenced (upTo at i) before) (fits : UnitFits u) where
     pub unit-unsorted : unitNumber u ≤ before → (w : Verdict) → w ≡ Refused (record { number = 19; list = 3; place = i }) → (before′ : ℕ) (A E : List ℕ) → OneUnit period modules ss at i w before′ A E
     unit-unsorted l w ew = unit-refused _ w ew e (rw (h, q .next u fits, le-ltb before (unitNumber u) l))
 

@@ -23,7 +23,7 @@ pub record Credited (ss : List Standard) (us : List UnitRecord) (A E : List ℕ)
 
 -- the standards and the unit records tested, and the units credited
 pub record Units (period modules : ℕ) (ss : List Standard) (us : List UnitRecord) (r : Verdict) (A E : List ℕ) : Type 0 where
-  pub answer : r ≡ standardGrounds period ss then unitGrounds period modules ss us
+  pub answer : r ≡ standardGrounds period modules ss then unitGrounds period modules ss us
   pub credited : r ≡ Accepted → Credited ss us A E
 
 -- ---- on the way

@@ -6,11 +6,11 @@ ghost use lib.Dec.{leb};
 ghost use lib.ListN.{getD, set, replicate};
 ghost use Rattle.records.specs.Log.{upTo, standardAt, unitAt};
 ghost use Rattle.records.specs.Covers.{Covers};
-ghost use Rattle.rules.specs.Theoretical.{placed, hasBegun, lastInForce};
+ghost use Rattle.rules.specs.Theoretical.{placed, isFor, hasBegun, lastInForce};
 ghost use Rattle.rules.specs.Sequence.{isRising, standardKey};
 ghost use Rattle.rules.specs.Keys.{standardNumber, StandardFits, StandardsSequenced, unitNumber, UnitFits, UnitsSequenced};
 ghost use Rattle.rules.specs.RecordGrounds.{isAmong, standardGround};
-ghost use Rattle.theoretical.specs.Listing.{Held, Listing, Added, AllListed, lookupOf};
+ghost use Rattle.theoretical.specs.Listing.{binOf, isOther, lastOf, Held, Listing, Added, AllListed, lookupOf};
 ghost use Rattle.theoretical.specs.Credits.{ownGrounds, SumsSoFar, OneUnit, AllUnits, Units};
 use records::Header;
 use records::Standard;
@@ -41,34 +41,53 @@ fn starts_by(
     h: Header,
     n: usize,
     entries: &[u64; 512],
-    recipes: &[u16; 512],
+    pairs: &[u16; 512],
     i: usize,
     time: u64,
 ) -> bool
-    requires { ⌜ Held (standardAt (now log) h) n (now entries) (now recipes) ⌝ }
+    requires { ⌜ Held (standardAt (now log) h) n (now entries) (now pairs) ⌝ }
     requires { ⌜ (i < n) × (time < 2 ^ 35) ⌝ }
     ensures { λ r. ⌜ r ≡ leb (standardAt (now (log .entry)) h i .start) time ⌝ }
 {
     entries[i] < (time + 1) * 0x800_0000
 }
 
-// Whether standard i is the recipe's and starts at or before the time.
+// Whether standard i is for the module and the recipe.
+fn is_for(
+    log: &[u8],
+    h: Header,
+    n: usize,
+    entries: &[u64; 512],
+    pairs: &[u16; 512],
+    i: usize,
+    module: usize,
+    recipe: usize,
+) -> bool
+    requires { ⌜ Held (standardAt (now log) h) n (now entries) (now pairs) ⌝ }
+    requires { ⌜ (i < n) × («module» < 64) × (recipe < 1024) ⌝ }
+    ensures { λ r. ⌜ r ≡ isFor «module» recipe (standardAt (now (log .entry)) h i) ⌝ }
+{
+    pairs[i] as usize == module * 1024 + recipe
+}
+
+// Whether standard i is for the module and the recipe and starts at or before the time.
 fn has_begun(
     log: &[u8],
     h: Header,
     n: usize,
     entries: &[u64; 512],
-    recipes: &[u16; 512],
+    pairs: &[u16; 512],
     i: usize,
+    module: usize,
     recipe: usize,
     time: u64,
 ) -> bool
-    requires { ⌜ Held (standardAt (now log) h) n (now entries) (now recipes) ⌝ }
-    requires { ⌜ (i < n) × (time < 2 ^ 35) ⌝ }
-    ensures { λ r. ⌜ r ≡ hasBegun recipe time (standardAt (now (log .entry)) h i) ⌝ }
+    requires { ⌜ Held (standardAt (now log) h) n (now entries) (now pairs) ⌝ }
+    requires { ⌜ (i < n) × («module» < 64) × (recipe < 1024) × (time < 2 ^ 35) ⌝ }
+    ensures { λ r. ⌜ r ≡ hasBegun «module» recipe time (standardAt (now (log .entry)) h i) ⌝ }
 {
-    if starts_by(log, h, n, entries, recipes, i, time) {
-        recipes[i] as usize == recipe
+    if starts_by(log, h, n, entries, pairs, i, time) {
+        is_for(log, h, n, entries, pairs, i, module, recipe)
     } else {
         false
     }
@@ -80,88 +99,130 @@ fn placed_at(
     h: Header,
     n: usize,
     entries: &[u64; 512],
-    recipes: &[u16; 512],
+    pairs: &[u16; 512],
     i: usize,
 ) -> Placed
-    requires { ⌜ Held (standardAt (now log) h) n (now entries) (now recipes) ⌝ }
+    requires { ⌜ Held (standardAt (now log) h) n (now entries) (now pairs) ⌝ }
     requires { ⌜ i < n ⌝ }
     ensures { λ r. ⌜ r ≡ placed i (standardAt (now (log .entry)) h i) ⌝ }
 {
     let entry = entries[i];
+    let pair = pairs[i] as usize;
     let standard = Standard {
-        recipe: recipes[i] as usize,
+        module: pair / 1024,
+        recipe: pair % 1024,
         start: entry / 0x800_0000,
         theoretical: entry % 0x800_0000,
+        spare: 0,
     };
     Placed { index: i, standard }
 }
 
-// The walk over the first `from` standards, from the last of them towards the front of the list: the first on the way that is the recipe's and starts at or
-// before the time, or none.
+// The walk over the first `from` standards, from the last of them towards the front of the list: the first on the way that is for the module and the recipe and
+// starts at or before the time, or none.
 fn walk_back(
     log: &[u8],
     h: Header,
     n: usize,
     entries: &[u64; 512],
-    recipes: &[u16; 512],
+    pairs: &[u16; 512],
     from: usize,
+    module: usize,
     recipe: usize,
     time: u64,
 ) -> Lookup
-    requires { ⌜ Held (standardAt (now log) h) n (now entries) (now recipes) ⌝ }
-    requires { ⌜ (from ≤ n) × (time < 2 ^ 35) ⌝ }
-    ensures { λ r. ⌜ r ≡ lookupOf (lastInForce (upTo (standardAt (now (log .entry)) h) from) recipe time) ⌝ }
+    requires { ⌜ Held (standardAt (now log) h) n (now entries) (now pairs) ⌝ }
+    requires { ⌜ (from ≤ n) × («module» < 64) × (recipe < 1024) × (time < 2 ^ 35) ⌝ }
+    ensures { λ r. ⌜ r ≡ lookupOf (lastInForce (upTo (standardAt (now (log .entry)) h) from) «module» recipe time) ⌝ }
 {
     let mut left = from;
     while left != 0 {
         let i = left - 1;
-        if has_begun(log, h, n, entries, recipes, i, recipe, time) {
-            return Lookup::Found(placed_at(log, h, n, entries, recipes, i));
+        if has_begun(log, h, n, entries, pairs, i, module, recipe, time) {
+            return Lookup::Found(placed_at(log, h, n, entries, pairs, i));
         }
         left = i;
     }
     Lookup::Nothing
 }
 
-// The last standard of the list, rising or not, that is the recipe's and starts at or before the time, or none. `last` leads to the recipe's last, past those of
-// other recipes behind it: nearly always that one has begun, and else the walk goes on from there. Not a buyer's call: the caller owes the listing.
+// The bin of a module and a recipe.
+fn bin_of(module: usize, recipe: usize) -> usize
+    requires { ⌜ («module» < 64) × (recipe < 1024) ⌝ }
+    ensures { λ r. ⌜ r ≡ binOf «module» recipe ⌝ }
+{
+    (283 * module + recipe) % 1024
+}
+
+// Where the last standard for the module and the recipe is: one more than its index, and 0 where there is none. The last one of their bin may be another's; then
+// it is the last one ahead of that other's, and so on.
+fn last_for(
+    log: &[u8],
+    h: Header,
+    n: usize,
+    entries: &[u64; 512],
+    pairs: &[u16; 512],
+    others: &[u16; 512],
+    last: &[u16; 1024],
+    module: usize,
+    recipe: usize,
+) -> usize
+    requires { ⌜ Listing (standardAt (now log) h) n (now entries) (now pairs) (now others) (now last) ⌝ }
+    requires { ⌜ («module» < 64) × (recipe < 1024) ⌝ }
+    ensures { λ r. ⌜ r ≡ lastOf (isFor «module» recipe) (standardAt (now (log .entry)) h) n ⌝ }
+{
+    let mut from = last[bin_of(module, recipe)] as usize;
+    while from != 0 {
+        let i = from - 1;
+        if is_for(log, h, n, entries, pairs, i, module, recipe) {
+            return from;
+        }
+        from = others[i] as usize;
+    }
+    0
+}
+
+// The last standard of the list, rising or not, that is for the module and the recipe and starts at or before the time, or none. Nearly always the last that is for
+// them has begun, and else the walk goes on from there. Not a buyer's call: the caller owes the listing.
 pub fn look_up(
     log: &[u8],
     h: Header,
     n: usize,
     entries: &[u64; 512],
-    recipes: &[u16; 512],
+    pairs: &[u16; 512],
+    others: &[u16; 512],
     last: &[u16; 1024],
+    module: usize,
     recipe: usize,
     time: u64,
 ) -> Lookup
-    requires { ⌜ Listing (standardAt (now log) h) n (now entries) (now recipes) (now last) ⌝ }
-    requires { ⌜ (recipe < 1024) × (time < 2 ^ 35) ⌝ }
-    ensures { λ r. ⌜ r ≡ lookupOf (lastInForce (upTo (standardAt (now (log .entry)) h) n) recipe time) ⌝ }
+    requires { ⌜ Listing (standardAt (now log) h) n (now entries) (now pairs) (now others) (now last) ⌝ }
+    requires { ⌜ («module» < 64) × (recipe < 1024) × (time < 2 ^ 35) ⌝ }
+    ensures { λ r. ⌜ r ≡ lookupOf (lastInForce (upTo (standardAt (now (log .entry)) h) n) «module» recipe time) ⌝ }
 {
-    let from = last[recipe] as usize;
+    let from = last_for(log, h, n, entries, pairs, others, last, module, recipe);
     if from == 0 {
         return Lookup::Nothing;
     }
     let newest = from - 1;
-    if starts_by(log, h, n, entries, recipes, newest, time) {
-        return Lookup::Found(placed_at(log, h, n, entries, recipes, newest));
+    if starts_by(log, h, n, entries, pairs, newest, time) {
+        return Lookup::Found(placed_at(log, h, n, entries, pairs, newest));
     }
-    walk_back(log, h, n, entries, recipes, newest, recipe, time)
+    walk_back(log, h, n, entries, pairs, newest, module, recipe, time)
 }
 
-// A standard's recipe and start in one number above 0, by which standards ascend.
+// A standard's module, recipe and start in one number above 0, by which standards ascend.
 fn standard_number(s: Standard) -> u64
     requires { ⌜ StandardFits s ⌝ }
     ensures { λ n. ⌜ n ≡ standardNumber s ⌝ }
 {
-    (s.recipe as u64 + 1) * 0x8_0000_0000 + s.start
+    ((s.module * 1024 + s.recipe) as u64 + 1) * 0x8_0000_0000 + s.start
 }
 
-// Whether one of the first n standards has this recipe and this start.
+// Whether one of the first n standards has this module, this recipe and this start.
 fn is_listed(log: &[u8], h: Header, n: usize, s: Standard) -> bool
     requires { ⌜ StandardFits s ⌝ }
-    requires { ⌜ Covers (now log) (10 + 6 * h .states + 9 * n) ⌝ }
+    requires { ⌜ Covers (now log) (10 + 6 * h .states + 10 * n) ⌝ }
     ensures { λ r. ⌜ r ≡ isAmong s (upTo (standardAt (now (log .entry)) h) n) ⌝ }
 {
     let number = standard_number(s);
@@ -174,13 +235,19 @@ fn is_listed(log: &[u8], h: Header, n: usize, s: Standard) -> bool
     false
 }
 
-// Standard i tested for 9, 12, 13 and 19. `before` is the number of the standard before it, and 0 where there is none. Those before rise: so one above them is none of
-// them, and else one search tells 13 from 19.
+// Standard i tested for 6, 7, 9, 12, 13 and 19. `before` is the number of the standard before it, and 0 where there is none. Those before rise: so one above them is
+// none of them, and else one search tells 13 from 19.
 fn test_standard(log: &[u8], h: Header, i: usize, before: u64, s: Standard) -> Verdict
     requires { ⌜ (s ≡ standardAt (now log) h i) × StandardsSequenced (upTo (standardAt (now log) h) i) before ⌝ }
-    requires { ⌜ Covers (now log) (10 + 6 * h .states + 9 * i) ⌝ }
-    ensures { λ r. ⌜ r ≡ standardGround (h .period) (upTo (standardAt (now (log .entry)) h) i) i s ⌝ }
+    requires { ⌜ Covers (now log) (10 + 6 * h .states + 10 * i) ⌝ }
+    ensures { λ r. ⌜ r ≡ standardGround (h .period) (h .modules) (upTo (standardAt (now (log .entry)) h) i) i s ⌝ }
 {
+    if s.spare != 0 {
+        return refused(6, 2, i);
+    }
+    if h.modules <= s.module {
+        return refused(7, 2, i);
+    }
     if h.period <= s.start {
         return refused(9, 2, i);
     }
@@ -196,24 +263,53 @@ fn test_standard(log: &[u8], h: Header, i: usize, before: u64, s: Standard) -> V
     Verdict::Accepted
 }
 
-// Standard i put into the arrays: it is the last one of its recipe.
+// Of the first i standards, where the last one is that has the bin of this one and is not for its module and recipe.
+fn last_other(
+    log: &[u8],
+    h: Header,
+    i: usize,
+    entries: &[u64; 512],
+    pairs: &[u16; 512],
+    others: &[u16; 512],
+    last: &[u16; 1024],
+    module: usize,
+    recipe: usize,
+) -> usize
+    requires { ⌜ Listing (standardAt (now log) h) i (now entries) (now pairs) (now others) (now last) ⌝ }
+    requires { ⌜ («module» < 64) × (recipe < 1024) ⌝ }
+    ensures { λ r. ⌜ r ≡ lastOf (isOther «module» recipe) (standardAt (now (log .entry)) h) i ⌝ }
+{
+    let from = last[bin_of(module, recipe)] as usize;
+    if from == 0 {
+        return 0;
+    }
+    if is_for(log, h, i, entries, pairs, from - 1, module, recipe) {
+        return others[from - 1] as usize;
+    }
+    from
+}
+
+// Standard i put into the arrays: it is the last one of its bin.
 fn store_standard(
     log: &[u8],
     h: Header,
     i: usize,
     entries: &mut [u64; 512],
-    recipes: &mut [u16; 512],
+    pairs: &mut [u16; 512],
+    others: &mut [u16; 512],
     last: &mut [u16; 1024],
     s: Standard,
 )
-    requires { ⌜ Listing (standardAt (now log) h) i (now entries) (now recipes) (now last) ⌝ }
-    requires { ⌜ (s ≡ standardAt (now log) h i) × (i < 512) ⌝ }
-    ensures { λ r. ⌜ Listing (standardAt (now (log .entry)) h) (i + 1) (now (entries .exit)) (now (recipes .exit)) (now (last .exit)) ⌝ }
+    requires { ⌜ Listing (standardAt (now log) h) i (now entries) (now pairs) (now others) (now last) ⌝ }
+    requires { ⌜ (s ≡ standardAt (now log) h i) × (s .spare ≡ 0) × (i < 512) ⌝ }
+    ensures { λ r. ⌜ Listing (standardAt (now (log .entry)) h) (i + 1) (now (entries .exit)) (now (pairs .exit)) (now (others .exit)) (now (last .exit)) ⌝ }
 {
+    let module = s.module;
     let recipe = s.recipe;
+    others[i] = last_other(log, h, i, entries, pairs, others, last, module, recipe) as u16;
     entries[i] = s.start * 0x800_0000 + s.theoretical;
-    recipes[i] = recipe as u16;
-    last[recipe] = (i + 1) as u16;
+    pairs[i] = (module * 1024 + recipe) as u16;
+    last[bin_of(module, recipe)] = (i + 1) as u16;
 }
 
 // Standard i tested, and listed where it passes.
@@ -223,13 +319,14 @@ fn list_standard(
     i: usize,
     before: &mut u64,
     entries: &mut [u64; 512],
-    recipes: &mut [u16; 512],
+    pairs: &mut [u16; 512],
+    others: &mut [u16; 512],
     last: &mut [u16; 1024],
 ) -> Verdict
     requires { ⌜ StandardsSequenced (upTo (standardAt (now log) h) i) (now before) ⌝ }
-    requires { ⌜ Listing (standardAt (now log) h) i (now entries) (now recipes) (now last) ⌝ }
-    requires { ⌜ (i < 512) × Covers (now log) (10 + 6 * h .states + 9 * i + 9) ⌝ }
-    ensures { λ r. ⌜ Added (h .period) (standardAt (now (log .entry)) h) i r (now (before .exit)) (now (entries .exit)) (now (recipes .exit)) (now (last .exit)) ⌝ }
+    requires { ⌜ Listing (standardAt (now log) h) i (now entries) (now pairs) (now others) (now last) ⌝ }
+    requires { ⌜ (i < 512) × Covers (now log) (10 + 6 * h .states + 10 * i + 10) ⌝ }
+    ensures { λ r. ⌜ Added (h .period) (h .modules) (standardAt (now (log .entry)) h) i r (now (before .exit)) (now (entries .exit)) (now (pairs .exit)) (now (others .exit)) (now (last .exit)) ⌝ }
 {
     let s = records::standard_within(log, h, i);
     let verdict = test_standard(log, h, i, *before, s);
@@ -237,7 +334,7 @@ fn list_standard(
         return verdict;
     }
     *before = standard_number(s);
-    store_standard(log, h, i, entries, recipes, last, s);
+    store_standard(log, h, i, entries, pairs, others, last, s);
     Verdict::Accepted
 }
 
@@ -246,17 +343,18 @@ pub fn list_standards(
     log: &[u8],
     h: Header,
     entries: &mut [u64; 512],
-    recipes: &mut [u16; 512],
+    pairs: &mut [u16; 512],
+    others: &mut [u16; 512],
     last: &mut [u16; 1024],
 ) -> Verdict
-    requires { ⌜ (h .standards ≤ 512) × Covers (now log) (10 + 6 * h .states + 9 * h .standards) ⌝ }
-    requires { ⌜ Listing (standardAt (now log) h) 0 (now entries) (now recipes) (now last) ⌝ }
-    ensures { λ r. ⌜ AllListed (h .period) (standardAt (now (log .entry)) h) (h .standards) r (now (entries .exit)) (now (recipes .exit)) (now (last .exit)) ⌝ }
+    requires { ⌜ (h .standards ≤ 512) × Covers (now log) (10 + 6 * h .states + 10 * h .standards) ⌝ }
+    requires { ⌜ Listing (standardAt (now log) h) 0 (now entries) (now pairs) (now others) (now last) ⌝ }
+    ensures { λ r. ⌜ AllListed (h .period) (h .modules) (standardAt (now (log .entry)) h) (h .standards) r (now (entries .exit)) (now (pairs .exit)) (now (others .exit)) (now (last .exit)) ⌝ }
 {
     let mut before = 0;
     let n = h.standards;
     for i in 0..n {
-        let verdict = list_standard(log, h, i, &mut before, entries, recipes, last);
+        let verdict = list_standard(log, h, i, &mut before, entries, pairs, others, last);
         if let Verdict::Refused(_) = verdict {
             return verdict;
         }
@@ -307,17 +405,18 @@ fn credit_unit(
     i: usize,
     byte: usize,
     entries: &[u64; 512],
-    recipes: &[u16; 512],
+    pairs: &[u16; 512],
+    others: &[u16; 512],
     last: &[u16; 1024],
     before: &mut u64,
     actual: &mut [u64; 64],
     effective: &mut [u64; 64],
 ) -> Verdict
-    requires { ⌜ Listing (standardAt (now log) h) (h .standards) (now entries) (now recipes) (now last) ⌝ }
+    requires { ⌜ Listing (standardAt (now log) h) (h .standards) (now entries) (now pairs) (now others) (now last) ⌝ }
     requires { ⌜ isRising standardKey (upTo (standardAt (now log) h) (h .standards)) ≡ true ⌝ }
     requires { ⌜ UnitsSequenced (upTo (unitAt (now log) h) i) (now before) ⌝ }
     requires { ⌜ SumsSoFar (upTo (standardAt (now log) h) (h .standards)) (upTo (unitAt (now log) h) i) i (now actual) (now effective) ⌝ }
-    requires { ⌜ (i < 2000) × (byte ≡ 10 + 6 * h .states + 9 * h .standards + 11 * i) × Covers (now log) (byte + 11) ⌝ }
+    requires { ⌜ (i < 2000) × (byte ≡ 10 + 6 * h .states + 10 * h .standards + 11 * i) × Covers (now log) (byte + 11) ⌝ }
     ensures { λ r. ⌜ OneUnit (h .period) (h .modules) (upTo (standardAt (now (log .entry)) h) (h .standards)) (unitAt (now (log .entry)) h) i r (now (before .exit)) (now (actual .exit)) (now (effective .exit)) ⌝ }
 {
     let u = records::unit_from(log, byte);
@@ -326,7 +425,18 @@ fn credit_unit(
         return own;
     }
     let n = h.standards;
-    let Lookup::Found(p) = look_up(log, h, n, entries, recipes, last, u.recipe, u.time) else {
+    let Lookup::Found(p) = look_up(
+        log,
+        h,
+        n,
+        entries,
+        pairs,
+        others,
+        last,
+        u.module,
+        u.recipe,
+        u.time,
+    ) else {
         return refused(15, 3, i);
     };
     let number = unit_number(u);
@@ -345,19 +455,20 @@ fn credit_listed(
     log: &[u8],
     h: Header,
     entries: &[u64; 512],
-    recipes: &[u16; 512],
+    pairs: &[u16; 512],
+    others: &[u16; 512],
     last: &[u16; 1024],
     actual: &mut [u64; 64],
     effective: &mut [u64; 64],
 ) -> Verdict
-    requires { ⌜ Listing (standardAt (now log) h) (h .standards) (now entries) (now recipes) (now last) ⌝ }
+    requires { ⌜ Listing (standardAt (now log) h) (h .standards) (now entries) (now pairs) (now others) (now last) ⌝ }
     requires { ⌜ isRising standardKey (upTo (standardAt (now log) h) (h .standards)) ≡ true ⌝ }
     requires { ⌜ SumsSoFar (upTo (standardAt (now log) h) (h .standards)) (upTo (unitAt (now log) h) 0) 0 (now actual) (now effective) ⌝ }
-    requires { ⌜ (h .units ≤ 2000) × Covers (now log) (10 + 6 * h .states + 9 * h .standards + 11 * h .units) ⌝ }
+    requires { ⌜ (h .units ≤ 2000) × Covers (now log) (10 + 6 * h .states + 10 * h .standards + 11 * h .units) ⌝ }
     ensures { λ r. ⌜ AllUnits (h .period) (h .modules) (upTo (standardAt (now (log .entry)) h) (h .standards)) (upTo (unitAt (now (log .entry)) h) (h .units)) r (now (actual .exit)) (now (effective .exit)) ⌝ }
 {
     let mut before = 0;
-    let mut byte = 10 + 6 * h.states + 9 * h.standards;
+    let mut byte = 10 + 6 * h.states + 10 * h.standards;
     let n = h.units;
     for i in 0..n {
         let verdict = credit_unit(
@@ -366,7 +477,8 @@ fn credit_listed(
             i,
             byte,
             entries,
-            recipes,
+            pairs,
+            others,
             last,
             &mut before,
             actual,
@@ -388,16 +500,17 @@ pub fn credit_units(
     actual: &mut [u64; 64],
     effective: &mut [u64; 64],
 ) -> Verdict
-    requires { ⌜ (h .standards ≤ 512) × (h .units ≤ 2000) × Covers (now log) (10 + 6 * h .states + 9 * h .standards + 11 * h .units) ⌝ }
+    requires { ⌜ (h .standards ≤ 512) × (h .units ≤ 2000) × Covers (now log) (10 + 6 * h .states + 10 * h .standards + 11 * h .units) ⌝ }
     requires { ⌜ (now actual ≡ replicate 64 0) × (now effective ≡ replicate 64 0) ⌝ }
     ensures { λ r. ⌜ Units (h .period) (h .modules) (upTo (standardAt (now (log .entry)) h) (h .standards)) (upTo (unitAt (now (log .entry)) h) (h .units)) r (now (actual .exit)) (now (effective .exit)) ⌝ }
 {
     let mut entries = [0u64; 512];
-    let mut recipes = [0u16; 512];
+    let mut pairs = [0u16; 512];
+    let mut others = [0u16; 512];
     let mut last = [0u16; 1024];
-    let verdict = list_standards(log, h, &mut entries, &mut recipes, &mut last);
+    let verdict = list_standards(log, h, &mut entries, &mut pairs, &mut others, &mut last);
     if let Verdict::Refused(_) = verdict {
         return verdict;
     }
-    credit_listed(log, h, &entries, &recipes, &last, actual, effective)
+    credit_listed(log, h, &entries, &pairs, &others, &last, actual, effective)
 }

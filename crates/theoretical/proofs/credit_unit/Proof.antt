@@ -22,10 +22,10 @@ use Rattle.theoretical.proofs.credit_unit.Statement.{statement}
 use Rattle.theoretical.proofs.credit_unit.Tie as tie
 
 -- a standard in force is one of the log's
-short : (s : List ℕ) (h : Header) (n recipe time : ℕ) (x : Placed) → inForce (upTo (standardAt s h) n) recipe time ≡ some x → x .standard .theoretical < 134217728
-short s h n recipe time x e =
-    let f = the-one (standardAt s h) recipe time n x e in
-    rw (f .same) (standard-fits s (80 + 48 * h .states + 72 * x .index) .1 .1 .0)
+short : (s : List ℕ) (h : Header) (n m recipe time : ℕ) (x : Placed) → inForce (upTo (standardAt s h) n) m recipe time ≡ some x → x .standard .theoretical < 134217728
+short s h n m recipe time x e =
+    let f = the-one (standardAt s h) m recipe time n x e in
+    rw (f .same) (standard-fits s (80 + 48 * h .states + 80 * x .index) .1 .1 .1 .0)
 
 -- where unit record i begins
 reads : (c : tie.After-unit-from) → let a = c .before .before .args in c .unit-from .result ≡ unitAt (a .log .now) (a .h) (a .i)
@@ -45,15 +45,15 @@ look-up-requires c κs =
     let a = s .args in
     let u = c .before .before .before in
     let w = unit-widths (a .log .now) (a .h) (a .i) (u .unit-from .result) (reads u) in
-    (s .pre .0, (w .1, w .2))
+    (s .pre .0, (w .0, w .1, w .2))
 
 -- the standards rise, so what was looked up is what is in force
 looked-up : (c : tie.After-look-up)
-    → let a = c .before .before .before .before .before .before .args in let u = c .before .before .before .before .unit-from .result in c .look-up .result ≡ lookupOf (inForce (upTo (standardAt (a .log .now) (a .h)) (a .h .standards)) (u .recipe) (u .time))
+    → let a = c .before .before .before .before .before .before .args in let u = c .before .before .before .before .unit-from .result in c .look-up .result ≡ lookupOf (inForce (upTo (standardAt (a .log .now) (a .h)) (a .h .standards)) (u .«module») (u .recipe) (u .time))
 looked-up c =
     let s = c .before .before .before .before .before .before in
     let u = c .before .before .before .before .unit-from .result in
-    c .look-up .ensures ∙ ap lookupOf (last-in-force (upTo (standardAt (s .args .log .now) (s .args .h)) (s .args .h .standards)) (u .recipe) (u .time) (s .pre .1 .0))
+    c .look-up .ensures ∙ ap lookupOf (last-in-force (upTo (standardAt (s .args .log .now) (s .args .h)) (s .args .h .standards)) (u .«module») (u .recipe) (u .time) (s .pre .1 .0))
 
 returns-2 : tie.Need-returns-2
 returns-2 c =
@@ -65,14 +65,14 @@ returns-2 c =
 
 -- where the lookup found a standard
 in-force-there : (c : tie.After-p)
-    → let a = c .before .before .before .before .before .before .before .before .args in let u = c .before .before .before .before .before .before .unit-from .result in inForce (upTo (standardAt (a .log .now) (a .h)) (a .h .standards)) (u .recipe) (u .time) ≡ some (c .p .given .0 .0)
+    → let a = c .before .before .before .before .before .before .before .before .args in let u = c .before .before .before .before .before .before .unit-from .result in inForce (upTo (standardAt (a .log .now) (a .h)) (a .h .standards)) (u .«module») (u .recipe) (u .time) ≡ some (c .p .given .0 .0)
 in-force-there c = found-is _ _ (sym (c .p .given .1) ∙ looked-up (c .before .before))
 
 short-there : (c : tie.After-p) → c .p .given .0 .0 .standard .theoretical < 134217728
 short-there c =
     let a = c .before .before .before .before .before .before .before .before .args in
     let u = c .before .before .before .before .before .before .unit-from .result in
-    short (a .log .now) (a .h) (a .h .standards) (u .recipe) (u .time) (c .p .given .0 .0) (in-force-there c)
+    short (a .log .now) (a .h) (a .h .standards) (u .«module») (u .recipe) (u .time) (c .p .given .0 .0) (in-force-there c)
 
 wide : (c : tie.After-p)
     → let u = c .before .before .before .before .before .before .unit-from .result in (u .«module» < 64) × (u .recipe < 1024) × (u .time < 2 ^ 35) × (u .actual < 65536) × (u .effective < 65536)

@@ -12,7 +12,7 @@ use Rattle.rules.specs.RecordGrounds.{standardGround}
 use Rattle.rules.proofs.FirstGround.{refused-not}
 use Rattle.rules.proofs.Risen.{standard-after}
 use Rattle.rules.proofs.Keys.{standards-below, sequenced-more}
-use Rattle.theoretical.proofs.Listings.{fits-fields}
+use Rattle.theoretical.proofs.Listings.{fits-fields, passed-plain}
 use Rattle.theoretical.proofs.list_standard.Statement.{statement}
 use Rattle.theoretical.proofs.list_standard.Tie as tie
 
@@ -28,11 +28,11 @@ test-standard-requires c κs =
 tested : (c : tie.After-test-standard)
     → let a = c .before .before .before .before .args in
     let at = standardAt (a .log .now) (a .h) in
-    c .test-standard .result ≡ standardGround (a .h .period) (upTo at (a .i)) (a .i) (at (a .i))
+    c .test-standard .result ≡ standardGround (a .h .period) (a .h .modules) (upTo at (a .i)) (a .i) (at (a .i))
 tested c =
     let a = c .before .before .before .before .args in
     let at = standardAt (a .log .now) (a .h) in
-    c .test-standard .ensures ∙ ap (standardGround (a .h .period) (upTo at (a .i)) (a .i)) (c .before .before .standard-within .ensures)
+    c .test-standard .ensures ∙ ap (standardGround (a .h .period) (a .h .modules) (upTo at (a .i)) (a .i)) (c .before .before .standard-within .ensures)
 
 returns : tie.Need-returns
 returns c =
@@ -43,21 +43,25 @@ returns c =
     }
 
 store-standard-requires : tie.Need-store-standard-requires
-store-standard-requires c κs = let s = c .before .before .before .before .before .before .before .before .before .before in (s .pre .1 .0, (c .before .before .before .before .before .before .before .before .standard-within .ensures, s .pre .1 .1 .0))
+store-standard-requires c κs =
+    let t = c .before .before .before .before .before .before .before in
+    let s = t .before .before .before .before in
+    let plain = passed-plain _ _ _ _ _ (sym (t .test-standard .ensures) ∙ c .before .before .before .before .before .enum-told2 .given .1) in
+    (s .pre .1 .0, (t .before .before .standard-within .ensures, plain, s .pre .1 .1 .0))
 
 returns-2 : tie.Need-returns-2
 returns-2 c =
-    let t = c .before .before .before .before .before .before .before in
+    let t = c .before .before .before .before .before .before .before .before in
     let r = t .before .before in
     let s = r .before .before in
     let a = s .args in
     let at = standardAt (a .log .now) (a .h) in
-    let passed = c .before .before .before .before .before .enum-told2 .given .1 in
+    let passed = c .before .before .before .before .before .before .enum-told2 .given .1 in
     let after : isAfter standardKey (justBefore (upTo at (a .i))) (r .standard-within .result) ≡ true
-    = ap (isAfter standardKey (justBefore (upTo at (a .i)))) (r .standard-within .ensures) ∙ standard-after _ _ _ _ (sym (tested t) ∙ passed) in
+    = ap (isAfter standardKey (justBefore (upTo at (a .i)))) (r .standard-within .ensures) ∙ standard-after _ _ _ _ _ (sym (tested t) ∙ passed) in
     record {
       answer = sym passed ∙ tested t;
-      sequenced = λ e. rw (up-to-more at (a .i), ← r .standard-within .ensures, c .before .before .before .before .standard-number .ensures)
+      sequenced = λ e. rw (up-to-more at (a .i), ← r .standard-within .ensures, c .before .before .before .before .before .standard-number .ensures)
           (sequenced-more standardKey standardNumber StandardFits standards-below (upTo at (a .i)) _ _ (s .pre .0) (fits r) after);
       listing = λ e. c .store-standard .ensures;
     }

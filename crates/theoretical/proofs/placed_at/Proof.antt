@@ -1,25 +1,25 @@
--- `theoretical::placed_at` meets its contract: a standard is read back from its entry and its recipe.
+-- `theoretical::placed_at` meets its contract: a standard is read back from its entry and its pair.
 -- Assumes nothing.
 use borrow.Author.Needs.{needs}
 use mathlib.Core.Path.{ap}
 use native.Mathlib.Omega.{arith}
 use Rattle.records.specs.Log.{standardAt}
 use Rattle.rules.specs.Theoretical.{placed}
-use Rattle.theoretical.proofs.Listings.{time-low, fits-fields, read-back}
+use Rattle.theoretical.proofs.Listings.{time-low, fits-fields, pair-low, read-back}
 use Rattle.theoretical.proofs.placed_at.Statement.{statement}
 use Rattle.theoretical.proofs.placed_at.Tie as tie
 
-cast-recipe : tie.Need-cast-t16
-cast-recipe c =
+cast-pair : tie.Need-cast-pair
+cast-pair c =
     let s = c .before .before in
     let a = s .args in
-    record { fits = omega (arith, s .pre .0 .recipes (a .i) (s .pre .1), fits-fields (a .log .now) (a .h) (a .i) .0) }
+    record { fits = omega (arith, pair-low (standardAt (a .log .now) (a .h)) (a .n) (a .entries .now) (a .pairs .now) (s .pre .0) (a .i) (s .pre .1) (fits-fields (a .log .now) (a .h) (a .i))) }
 
 returns : tie.Need-returns
 returns c =
     let s = c .before .before in
     let a = s .args in
-    ap (placed (a .i)) (read-back (standardAt (a .log .now) (a .h)) (a .n) (a .entries .now) (a .recipes .now) (s .pre .0) (a .i) (s .pre .1) (time-low (a .log .now) (a .h) (a .i)))
+    ap (placed (a .i)) (read-back (standardAt (a .log .now) (a .h)) (a .n) (a .entries .now) (a .pairs .now) (s .pre .0) (a .i) (s .pre .1) (fits-fields (a .log .now) (a .h) (a .i)) (time-low (a .log .now) (a .h) (a .i)))
 
 pub placed-at-spec : {M : Type 1} → statement M
-placed-at-spec = tie.close (tie.spec (λ c. search needs) (λ c. search needs) (λ c. search needs) (λ c. search needs) cast-recipe returns)
+placed-at-spec = tie.close (tie.spec (λ c. search needs) (λ c. search needs) (λ c. search needs) (λ c. search needs) cast-pair returns)

@@ -10,7 +10,7 @@ returns : tie.Need-returns
 returns c =
     let s = c .before in
     let a = s .args in
-    entry-below (standardAt (a .log .now) (a .h)) (a .n) (a .entries .now) (a .recipes .now) (s .pre .0) (a .i) (s .pre .1 .0) (time-low (a .log .now) (a .h) (a .i)) (a .time)
+    entry-below (standardAt (a .log .now) (a .h)) (a .n) (a .entries .now) (a .pairs .now) (s .pre .0) (a .i) (s .pre .1 .0) (time-low (a .log .now) (a .h) (a .i)) (a .time)
 
 pub starts-by-spec : {M : Type 1} → statement M
 starts-by-spec = tie.close (tie.spec (λ c. search needs) (λ c. search needs) (λ c. search needs) (λ c. search needs) returns)
