@@ -9,7 +9,7 @@ use Rattle.bits.proofs.Fields.{field-lt}
 use Rattle.records.specs.declared.Header.{Header}
 use Rattle.records.specs.Log.{Log, upTo, headerOf, standardAt, decode}
 use Rattle.records.proofs.UpTo.{length-up-to, up-to-at}
-use Rattle.records.proofs.Widths.{standard-fits}
+use Rattle.records.proofs.Widths.{standard-time-low}
 use Rattle.rules.specs.declared.Refusal.{Refusal}
 use Rattle.rules.specs.declared.Verdict.{Verdict}
 use Rattle.rules.specs.declared.Verdict.the-variants.{Accepted, Refused}
@@ -45,7 +45,7 @@ module _ (s : List ℕ) (h : Header) (e : h ≡ headerOf s) where
       rw (e, map-up-to (λ x. x .theoretical) (standardAt s (headerOf s)) n) (up-to-at (λ j. standardAt s (headerOf s) j .theoretical) n i 0 m)
 
   pub time-low : (i : ℕ) → i < h .standards → timeAt (decode s) i < 2 ^ 27
-  time-low i l = rw (time-is i l) (standard-fits s (80 + 48 * h .states + 72 * i) .1 .1 .0)
+  time-low i l = rw (time-is i l) (standard-time-low s h i)
 
 -- ---- no sum is too great
 

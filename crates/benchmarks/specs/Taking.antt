@@ -44,7 +44,7 @@ Below bound S = (getD S 0 0 < bound) × (getD S 1 0 < bound) × (getD S 2 0 < bo
 pub record Lent (s : List ℕ) (h : Header) (b J : List ℕ) : Type 0 where
   pub header : h ≡ headerOf s
   pub few : h .standards ≤ 512
-  pub log : Covers s (10 + 6 * h .states + 9 * h .standards)
+  pub log : Covers s (10 + 6 * h .states + 10 * h .standards)
   pub benchmarks : Covers b (14 * h .standards)
   pub low : (k : ℕ) → k < 512 → getD J k 0 < 2 ^ 27
   pub judged : (k : ℕ) → k < 512 → getD J k 0 ≡ effectiveJudged (decode s) k

@@ -69,7 +69,7 @@ fn put_card_line(buf: &mut [u8], at: usize, k: usize) -> usize
         no standard\nnone in force for a unit record\na recipe that ran ahead of its first standard\n\
         too fast\na module's actual theoretical time above its production time\na standard that is too long, or productive time logged as something else\n\
         too great\na tool sum above 9,007,199,254,740,991 ms\nno log can reach it\n\
-        short buffer\nreport longer than the buffer, or a record that does not fit at its position\nlend 2,494 bytes, which hold every report; 62,618 hold every log\n\
+        short buffer\nreport longer than the buffer, or a record that does not fit at its position\nlend 2,494 bytes, which hold every report; 63,130 hold every log\n\
         unsorted\nout of rising sequence: standards by recipe and start, units by time, module and recipe\nsort the list by these fields, ascending; merge unit records that agree in all three\n\
         above standard\na time of a benchmark above its standard's theoretical time\nbenchmarks out of the standards' sequence, or those of another revision\n\
         over-counted\ntotal effective units of a benchmark above the effective units judged by its standard\nunits of another period or revision; scrap or rework of this tool counted as good\n\

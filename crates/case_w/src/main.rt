@@ -155,7 +155,7 @@ fn standard_is(
     start: u64,
     theoretical: u64,
 ) -> bool
-    requires { ⌜ 10 + 6 * h .states + 9 * i + 9 ≤ 100 ⌝ }
+    requires { ⌜ 10 + 6 * h .states + 10 * i + 10 ≤ 100 ⌝ }
     ensures { λ r. ⌜ r ≡ sameStandard (standardAt (now (log .entry)) h i) (record { recipe = recipe; start = start; theoretical = theoretical }) ⌝ }
 {
     let r = records::standard_within(log, h, i);
@@ -172,7 +172,7 @@ fn unit_is(
     actual: u64,
     effective: u64,
 ) -> bool
-    requires { ⌜ 10 + 6 * h .states + 9 * h .standards + 11 * i + 11 ≤ 100 ⌝ }
+    requires { ⌜ 10 + 6 * h .states + 10 * h .standards + 11 * i + 11 ≤ 100 ⌝ }
     ensures { λ r. ⌜ r ≡ sameUnit (unitAt (now (log .entry)) h i) (record { «module» = «module»; recipe = 0; time = time; actual = actual; effective = effective; spare = 0 }) ⌝ }
 {
     let r = records::unit_within(log, h, i);

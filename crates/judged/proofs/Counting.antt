@@ -26,7 +26,7 @@ judged-more f ss (v ∷ us) u k = rw (judged-more f ss us u k) (sym (add-assoc (
 
 module _ (ss : List Standard) (at : ℕ → UnitRecord) (i : ℕ) (u : UnitRecord) (eu : u ≡ at i) (J : List ℕ) (so-far : JudgedSoFar ss (upTo at i) i J) where
   -- no standard is in force
-  pub counted-none : inForce ss (u .recipe) (u .time) ≡ none → JudgedSoFar ss (upTo at (i + 1)) (i + 1) J
+  pub counted-none : inForce ss (u .«module») (u .recipe) (u .time) ≡ none → JudgedSoFar ss (upTo at (i + 1)) (i + 1) J
   unfolding judgedBy
   counted-none e =
       record {
@@ -35,7 +35,7 @@ module _ (ss : List Standard) (at : ℕ → UnitRecord) (i : ℕ) (u : UnitRecor
         judged = λ k l. rw (up-to-more at i, ← eu, judged-more (λ u. u .effective) ss (upTo at i) u k, e) (so-far .judged k l ∙ omega arith);
       }
 
-  module _ (p : Placed) (e : inForce ss (u .recipe) (u .time) ≡ some p) (low : p .index < 512) (few : u .effective < 65536) where
+  module _ (p : Placed) (e : inForce ss (u .«module») (u .recipe) (u .time) ≡ some p) (low : p .index < 512) (few : u .effective < 65536) where
     abbrev counted : List ℕ
     counted = set J (p .index) (getD J (p .index) 0 + u .effective)
 

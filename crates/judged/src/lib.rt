@@ -1,4 +1,4 @@
-// The effective units that each standard judges: those of the unit records, of all modules, for which it was the standard in force.
+// The effective units that each standard judges: those of the unit records for which it was the standard in force.
 ghost use mathlib.Core.Path.{_≡_};
 ghost use mathlib.Core.Bool.{true};
 ghost use Prim.Native.Nat.{_+_, _*_, _^_, _<_, _≤_};
@@ -28,20 +28,31 @@ fn count_unit(
     i: usize,
     byte: usize,
     entries: &[u64; 512],
-    recipes: &[u16; 512],
+    pairs: &[u16; 512],
+    others: &[u16; 512],
     last: &[u16; 1024],
     judged: &mut [u64; 512],
 )
-    requires { ⌜ Listing (standardAt (now log) h) (h .standards) (now entries) (now recipes) (now last) ⌝ }
+    requires { ⌜ Listing (standardAt (now log) h) (h .standards) (now entries) (now pairs) (now others) (now last) ⌝ }
     requires { ⌜ isRising standardKey (upTo (standardAt (now log) h) (h .standards)) ≡ true ⌝ }
     requires { ⌜ JudgedSoFar (upTo (standardAt (now log) h) (h .standards)) (upTo (unitAt (now log) h) i) i (now judged) ⌝ }
-    requires { ⌜ (i < 2000) × (byte ≡ 10 + 6 * h .states + 9 * h .standards + 11 * i) × Covers (now log) (byte + 11) ⌝ }
+    requires { ⌜ (i < 2000) × (byte ≡ 10 + 6 * h .states + 10 * h .standards + 11 * i) × Covers (now log) (byte + 11) ⌝ }
     ensures { λ _. ⌜ JudgedSoFar (upTo (standardAt (now (log .entry)) h) (h .standards)) (upTo (unitAt (now (log .entry)) h) (i + 1)) (i + 1) (now (judged .exit)) ⌝ }
 {
     let u = records::unit_from(log, byte);
     let n = h.standards;
-    let Lookup::Found(p) = theoretical::look_up(log, h, n, entries, recipes, last, u.recipe, u.time)
-    else {
+    let Lookup::Found(p) = theoretical::look_up(
+        log,
+        h,
+        n,
+        entries,
+        pairs,
+        others,
+        last,
+        u.module,
+        u.recipe,
+        u.time,
+    ) else {
         return;
     };
     count(judged, p.index, u.effective);
@@ -52,20 +63,21 @@ fn count_units(
     log: &[u8],
     h: Header,
     entries: &[u64; 512],
-    recipes: &[u16; 512],
+    pairs: &[u16; 512],
+    others: &[u16; 512],
     last: &[u16; 1024],
     judged: &mut [u64; 512],
 )
-    requires { ⌜ Listing (standardAt (now log) h) (h .standards) (now entries) (now recipes) (now last) ⌝ }
+    requires { ⌜ Listing (standardAt (now log) h) (h .standards) (now entries) (now pairs) (now others) (now last) ⌝ }
     requires { ⌜ isRising standardKey (upTo (standardAt (now log) h) (h .standards)) ≡ true ⌝ }
     requires { ⌜ JudgedSoFar (upTo (standardAt (now log) h) (h .standards)) (upTo (unitAt (now log) h) 0) 0 (now judged) ⌝ }
-    requires { ⌜ (h .units ≤ 2000) × Covers (now log) (10 + 6 * h .states + 9 * h .standards + 11 * h .units) ⌝ }
+    requires { ⌜ (h .units ≤ 2000) × Covers (now log) (10 + 6 * h .states + 10 * h .standards + 11 * h .units) ⌝ }
     ensures { λ _. ⌜ JudgedSoFar (upTo (standardAt (now (log .entry)) h) (h .standards)) (upTo (unitAt (now (log .entry)) h) (h .units)) (h .units) (now (judged .exit)) ⌝ }
 {
-    let mut byte = 10 + 6 * h.states + 9 * h.standards;
+    let mut byte = 10 + 6 * h.states + 10 * h.standards;
     let n = h.units;
     for i in 0..n {
-        count_unit(log, h, i, byte, entries, recipes, last, judged);
+        count_unit(log, h, i, byte, entries, pairs, others, last, judged);
         byte += 11;
     }
 }
@@ -73,14 +85,15 @@ fn count_units(
 // Counts the effective units that each standard judges. Not a buyer's call: the caller owes that the log's counts are within their bounds, that its standards
 // are accepted and that the counters start at zero.
 pub fn effective_units(log: &[u8], h: Header, judged: &mut [u64; 512])
-    requires { ⌜ (h .standards ≤ 512) × (h .units ≤ 2000) × Covers (now log) (10 + 6 * h .states + 9 * h .standards + 11 * h .units) ⌝ }
-    requires { ⌜ standardGrounds (h .period) (upTo (standardAt (now log) h) (h .standards)) ≡ Accepted ⌝ }
+    requires { ⌜ (h .standards ≤ 512) × (h .units ≤ 2000) × Covers (now log) (10 + 6 * h .states + 10 * h .standards + 11 * h .units) ⌝ }
+    requires { ⌜ standardGrounds (h .period) (h .modules) (upTo (standardAt (now log) h) (h .standards)) ≡ Accepted ⌝ }
     requires { ⌜ now judged ≡ replicate 512 0 ⌝ }
     ensures { λ _. ⌜ JudgedSoFar (upTo (standardAt (now (log .entry)) h) (h .standards)) (upTo (unitAt (now (log .entry)) h) (h .units)) (h .units) (now (judged .exit)) ⌝ }
 {
     let mut entries = [0u64; 512];
-    let mut recipes = [0u16; 512];
+    let mut pairs = [0u16; 512];
+    let mut others = [0u16; 512];
     let mut last = [0u16; 1024];
-    theoretical::list_standards(log, h, &mut entries, &mut recipes, &mut last);
-    count_units(log, h, &entries, &recipes, &last, judged);
+    theoretical::list_standards(log, h, &mut entries, &mut pairs, &mut others, &mut last);
+    count_units(log, h, &entries, &pairs, &others, &last, judged);
 }

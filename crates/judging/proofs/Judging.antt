@@ -27,7 +27,7 @@ pub record Counted (n : ℕ) (h : Header) : Type 0 where
   pub period : (0 < h .period) × (h .period ≤ 31622400000)
   pub modules : (0 < h .modules) × (h .modules ≤ 64)
   pub counts : (h .states ≤ 6000) × (h .standards ≤ 512) × (h .units ≤ 2000)
-  pub whole : n ≡ 10 + 6 * h .states + 9 * h .standards + 11 * h .units
+  pub whole : n ≡ 10 + 6 * h .states + 10 * h .standards + 11 * h .units
 
 pub counted : (s : List ℕ) (h : Header) → h ≡ headerOf s → headerGrounds s ≡ Accepted → Counted (length s) h
 unfolding headerGrounds

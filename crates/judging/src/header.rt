@@ -29,7 +29,7 @@ fn bad_length(length: usize, h: Header) -> bool
     requires { ⌜ badCounts h ≡ false ⌝ }
     ensures { λ r. ⌜ r ≡ badLength length h ⌝ }
 {
-    length != 10 + 6 * h.states + 9 * h.standards + 11 * h.units
+    length != 10 + 6 * h.states + 10 * h.standards + 11 * h.units
 }
 
 // 1 to 5, by number.

@@ -2,7 +2,7 @@
 -- Assumes nothing.
 use mathlib.Core.Path.{_≡_, sym, subst}
 use mathlib.Core.List.{List, [], _∷_, _++_}
-use Prim.Native.Nat.{ℕ, zero, suc, _+_, _*_}
+use Prim.Native.Nat.{ℕ, zero, suc, _+_, _*_, _^_, _<_}
 use Rattle.bits.specs.Put.{Slot, Fit}
 use Rattle.bits.proofs.Fields.{field-lt}
 use Rattle.records.specs.Fields.{headerFrom, stateFrom, standardFrom, unitFrom}
@@ -22,6 +22,10 @@ state-fits s p = (field-lt s p 6, (field-lt s (p + 6) 5, (field-lt s (p + 11) 35
 pub standard-fits : (s : List ℕ) (p : ℕ) → Fit (standardSlots (standardFrom s p))
 unfolding standardFrom
 standard-fits s p = (field-lt s p 6, (field-lt s (p + 6) 10, (field-lt s (p + 16) 35, (field-lt s (p + 51) 27, (field-lt s (p + 78) 2, tt)))))
+
+-- the theoretical time of a log's standard
+pub standard-time-low : (s : List ℕ) (h : Header) (i : ℕ) → standardAt s h i .theoretical < 2 ^ 27
+standard-time-low s h i = standard-fits s (80 + 48 * h .states + 80 * i) .1 .1 .1 .0
 
 pub unit-fits : (s : List ℕ) (p : ℕ) → Fit (unitSlots (unitFrom s p))
 unfolding unitFrom

@@ -65,7 +65,7 @@ module _ (s b : List ℕ) where
     unfolding verdict
     sized = counted s (headerOf s) refl (then-left (headerGrounds s) (recordGrounds (decode s)) a)
 
-    pub log-there : Covers s (10 + 6 * headerOf s .states + 9 * headerOf s .standards + 11 * headerOf s .units)
+    pub log-there : Covers s (10 + 6 * headerOf s .states + 10 * headerOf s .standards + 11 * headerOf s .units)
     log-there = (omega (arith, sized .whole), omega (arith, sized .whole, sized .counts .0, sized .counts .1, sized .counts .2))
 
     -- what is lent to the pass over the benchmarks

@@ -31,13 +31,7 @@ use Rattle.rules.specs.Keys.{standardNumber, StandardFits, StandardsSequenced}
 use Rattle.theoretical.specs.Listing.{entryOf, pairOf, binOf, isIn, isOther, lastOf, Held, Listing, Added, AllListed}
 use Rattle.theoretical.proofs.Walks.{last-own, last-other}
 
--- ---- the widths of a standard's fields
-
--- its theoretical time
-pub time-low : (s : List ℕ) (h : Header) (i : ℕ) → standardAt s h i .theoretical < 2 ^ 27
-time-low s h i = standard-fits s (80 + 48 * h .states + 80 * i) .1 .1 .1 .0
-
--- its module, recipe and start
+-- the widths of a standard's module, recipe and start
 pub fits-fields : (s : List ℕ) (h : Header) (i : ℕ) → StandardFits (standardAt s h i)
 fits-fields s h i = let f = standard-fits s (80 + 48 * h .states + 80 * i) in (f .0, f .1 .0, f .1 .1 .0)
 

@@ -84,13 +84,13 @@ fn print(asked: Asked, name: &[u8], log: &[u8])
     print_words(name, log);
 }
 
-// The longest log takes 62,618 bytes: one byte more is enough to see that a log is too long.
+// The longest log takes 63,130 bytes: one byte more is enough to see that a log is too long.
 fn answer(asked: Asked) {
     if has_too_many(3) {
         return;
     }
     let mut name = io::buffer();
-    let mut input = [0u8; 62619];
+    let mut input = [0u8; 63131];
     let named = reading::read_log(2, &mut name, &mut input);
     if named.is_read {
         print(asked, &name[..named.name], &input[..named.size]);
@@ -135,7 +135,7 @@ fn is_input(i: usize) -> bool {
 // The benchmarks of the longest log take 7,168 bytes.
 fn read_both() {
     let mut name = io::buffer();
-    let mut log = [0u8; 62619];
+    let mut log = [0u8; 63131];
     let first = reading::read_log(2, &mut name, &mut log);
     if !first.is_read {
         return;

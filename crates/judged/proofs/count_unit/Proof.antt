@@ -26,7 +26,7 @@ abbrev standards : tie.Start → List Standard
 standards s = upTo (standardAt (s .args .log .now) (s .args .h)) (s .args .h .standards)
 
 abbrev force : tie.Start → UnitRecord → Option Placed
-force s u = inForce (standards s) (u .recipe) (u .time)
+force s u = inForce (standards s) (u .«module») (u .recipe) (u .time)
 
 reads : (c : tie.After-unit-from) → let a = c .before .before .args in c .unit-from .result ≡ unitAt (a .log .now) (a .h) (a .i)
 reads c = let s = c .before .before in c .unit-from .ensures ∙ ap (unitFrom (s .args .log .now)) (omega (arith, s .pre .1 .1 .1 .1))
@@ -35,13 +35,13 @@ look-up-requires : tie.Need-look-up-requires
 look-up-requires c κs =
     let s = c .before .before in
     let w = unit-widths (s .args .log .now) (s .args .h) (s .args .i) (c .unit-from .result) (reads c) in
-    (s .pre .0, (w .1, w .2))
+    (s .pre .0, (w .0, w .1, w .2))
 
 looked-up : (c : tie.After-look-up) → c .look-up .result ≡ lookupOf (force (c .before .before .before) (c .before .unit-from .result))
 looked-up c =
     let s = c .before .before .before in
     let u = c .before .unit-from .result in
-    c .look-up .ensures ∙ ap lookupOf (last-in-force (standards s) (u .recipe) (u .time) (s .pre .1 .0))
+    c .look-up .ensures ∙ ap lookupOf (last-in-force (standards s) (u .«module») (u .recipe) (u .time) (s .pre .1 .0))
 
 returns : tie.Need-returns
 returns c =
@@ -57,7 +57,7 @@ low : (c : tie.After-p) → c .p .given .0 .0 .index < 512
 low c =
     let s = c .before .before .before .before .before in
     let u = c .before .before .before .unit-from .result in
-    omega (arith, the-one (standardAt (s .args .log .now) (s .args .h)) (u .recipe) (u .time) (s .args .h .standards) (c .p .given .0 .0) (found c) .listed, s .pre .0 .held .few)
+    omega (arith, the-one (standardAt (s .args .log .now) (s .args .h)) (u .«module») (u .recipe) (u .time) (s .args .h .standards) (c .p .given .0 .0) (found c) .listed, s .pre .0 .held .few)
 
 narrow : (c : tie.After-p) → let u = c .before .before .before .unit-from .result in (u .actual < 65536) × (u .effective < 65536)
 narrow c =

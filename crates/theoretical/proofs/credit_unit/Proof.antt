@@ -9,7 +9,7 @@ use native.Mathlib.Omega.{arith}
 use Rattle.records.specs.declared.Header.{Header}
 use Rattle.records.specs.Log.{upTo, standardAt, unitAt}
 use Rattle.records.specs.Fields.{unitFrom}
-use Rattle.records.proofs.Widths.{standard-fits}
+use Rattle.records.proofs.Widths.{standard-time-low}
 use Rattle.rules.specs.declared.Placed.{Placed}
 use Rattle.rules.specs.Keys.{UnitFits}
 use Rattle.rules.specs.Theoretical.{inForce}
@@ -25,7 +25,7 @@ use Rattle.theoretical.proofs.credit_unit.Tie as tie
 short : (s : List ℕ) (h : Header) (n m recipe time : ℕ) (x : Placed) → inForce (upTo (standardAt s h) n) m recipe time ≡ some x → x .standard .theoretical < 134217728
 short s h n m recipe time x e =
     let f = the-one (standardAt s h) m recipe time n x e in
-    rw (f .same) (standard-fits s (80 + 48 * h .states + 80 * x .index) .1 .1 .1 .0)
+    rw (f .same) (standard-time-low s h (x .index))
 
 -- where unit record i begins
 reads : (c : tie.After-unit-from) → let a = c .before .before .args in c .unit-from .result ≡ unitAt (a .log .now) (a .h) (a .i)

@@ -5,7 +5,8 @@ use mathlib.Core.Path.{ap}
 use native.Mathlib.Omega.{arith}
 use Rattle.records.specs.Log.{standardAt}
 use Rattle.rules.specs.Theoretical.{placed}
-use Rattle.theoretical.proofs.Listings.{time-low, fits-fields, pair-low, read-back}
+use Rattle.records.proofs.Widths.{standard-time-low}
+use Rattle.theoretical.proofs.Listings.{fits-fields, pair-low, read-back}
 use Rattle.theoretical.proofs.placed_at.Statement.{statement}
 use Rattle.theoretical.proofs.placed_at.Tie as tie
 
@@ -19,7 +20,7 @@ returns : tie.Need-returns
 returns c =
     let s = c .before .before in
     let a = s .args in
-    ap (placed (a .i)) (read-back (standardAt (a .log .now) (a .h)) (a .n) (a .entries .now) (a .pairs .now) (s .pre .0) (a .i) (s .pre .1) (fits-fields (a .log .now) (a .h) (a .i)) (time-low (a .log .now) (a .h) (a .i)))
+    ap (placed (a .i)) (read-back (standardAt (a .log .now) (a .h)) (a .n) (a .entries .now) (a .pairs .now) (s .pre .0) (a .i) (s .pre .1) (fits-fields (a .log .now) (a .h) (a .i)) (standard-time-low (a .log .now) (a .h) (a .i)))
 
 pub placed-at-spec : {M : Type 1} → statement M
 placed-at-spec = tie.close (tie.spec (λ c. search needs) (λ c. search needs) (λ c. search needs) (λ c. search needs) cast-pair returns)

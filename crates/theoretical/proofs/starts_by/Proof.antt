@@ -2,7 +2,8 @@
 -- Assumes nothing.
 use borrow.Author.Needs.{needs}
 use Rattle.records.specs.Log.{standardAt}
-use Rattle.theoretical.proofs.Listings.{time-low, entry-below}
+use Rattle.records.proofs.Widths.{standard-time-low}
+use Rattle.theoretical.proofs.Listings.{entry-below}
 use Rattle.theoretical.proofs.starts_by.Statement.{statement}
 use Rattle.theoretical.proofs.starts_by.Tie as tie
 
@@ -10,7 +11,7 @@ returns : tie.Need-returns
 returns c =
     let s = c .before in
     let a = s .args in
-    entry-below (standardAt (a .log .now) (a .h)) (a .n) (a .entries .now) (a .pairs .now) (s .pre .0) (a .i) (s .pre .1 .0) (time-low (a .log .now) (a .h) (a .i)) (a .time)
+    entry-below (standardAt (a .log .now) (a .h)) (a .n) (a .entries .now) (a .pairs .now) (s .pre .0) (a .i) (s .pre .1 .0) (standard-time-low (a .log .now) (a .h) (a .i)) (a .time)
 
 pub starts-by-spec : {M : Type 1} → statement M
 starts-by-spec = tie.close (tie.spec (λ c. search needs) (λ c. search needs) (λ c. search needs) (λ c. search needs) returns)

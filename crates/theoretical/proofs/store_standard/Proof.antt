@@ -7,13 +7,14 @@ use native.Mathlib.Omega.{arith}
 use Rattle.records.specs.declared.Standard.{Standard}
 use Rattle.records.specs.Log.{standardAt}
 use Rattle.theoretical.specs.Listing.{isOther}
-use Rattle.theoretical.proofs.Listings.{time-low, fits-fields, bin-low, listed-more}
+use Rattle.records.proofs.Widths.{standard-time-low}
+use Rattle.theoretical.proofs.Listings.{fits-fields, bin-low, listed-more}
 use Rattle.theoretical.proofs.Walks.{last-le}
 use Rattle.theoretical.proofs.store_standard.Statement.{statement}
 use Rattle.theoretical.proofs.store_standard.Tie as tie
 
 low : (c : tie.Start) → (c .args .s .«module» < 64) × (c .args .s .recipe < 1024) × (c .args .s .start < 2 ^ 35) × (c .args .s .theoretical < 2 ^ 27)
-low c = let a = c .args in let f = fits-fields (a .log .now) (a .h) (a .i) in rw (c .pre .1 .0) (f .0, f .1, f .2, time-low (a .log .now) (a .h) (a .i))
+low c = let a = c .args in let f = fits-fields (a .log .now) (a .h) (a .i) in rw (c .pre .1 .0) (f .0, f .1, f .2, standard-time-low (a .log .now) (a .h) (a .i))
 
 last-other-requires : tie.Need-last-other-requires
 last-other-requires c κs = let s = c .before .before .before .before .before in let l = low s in (s .pre .0, (l .0, l .1))
