@@ -56,7 +56,7 @@ fn put_card_line(buf: &mut [u8], at: usize, k: usize) -> usize
         period\n0 or over 366 days (31,622,400,000 ms)\nthe start and end of the export\n\
         modules\n0 or over 64\nthe tool's configuration\n\
         counts\nover 6,000 state records, 512 standards or 2,000 unit records\nan export over too long a time: cut it\n\
-        length\nbytes other than 10 + 6 states + 9 standards + 11 units; benchmarks: 14 for each standard\na transfer cut off, or bytes behind the log; benchmarks of another log\n\
+        length\nbytes other than 10 + 6 states + 10 standards + 11 units; benchmarks: 14 for each standard\na transfer cut off, or bytes behind the log; benchmarks of another log\n\
         spare\na spare bit set\nanother version of the format, or bytes out of step\n\
         stray module\nmodule at or above the module count\na module added after the header was set\n\
         stray code\nsub-state code above 23\ncodes of the controller's own that are not mapped\n\
@@ -64,13 +64,13 @@ fn put_card_line(buf: &mut [u8], at: usize, k: usize) -> usize
         sequence\ntime, then module, not above the record before, or not later than its own module's last\na clock set back; a change logged twice; modules of one time out of sequence\n\
         no opening\na module whose first record is not at time 0, or that has none\nthe module's state at the start of the period\n\
         no time\ntheoretical time 0, or a time of a benchmark 0\na recipe that was entered without its time\n\
-        twice\nrecipe and start both equal to an earlier standard's\na revision entered twice\n\
+        twice\nmodule, recipe and start all equal to an earlier standard's\na revision entered twice\n\
         over-good\neffective units above actual units\ngood and made units exchanged; rework counted twice\n\
-        no standard\nnone in force for a unit record\na recipe that ran ahead of its first standard\n\
+        no standard\nnone in force for a unit record\na recipe that ran ahead of its first standard, or at a module that has none for it\n\
         too fast\na module's actual theoretical time above its production time\na standard that is too long, or productive time logged as something else\n\
         too great\na tool sum above 9,007,199,254,740,991 ms\nno log can reach it\n\
         short buffer\nreport longer than the buffer, or a record that does not fit at its position\nlend 2,494 bytes, which hold every report; 63,130 hold every log\n\
-        unsorted\nout of rising sequence: standards by recipe and start, units by time, module and recipe\nsort the list by these fields, ascending; merge unit records that agree in all three\n\
+        unsorted\nout of rising sequence: standards by module, recipe and start, units by time, module and recipe\nsort the list by these fields, ascending; merge unit records that agree in all three\n\
         above standard\na time of a benchmark above its standard's theoretical time\nbenchmarks out of the standards' sequence, or those of another revision\n\
         over-counted\ntotal effective units of a benchmark above the effective units judged by its standard\nunits of another period or revision; scrap or rework of this tool counted as good\n\
         too wide\na value does not fit its field\na value in another unit than ms, a number of the controller's own, or a count that ran on\n\

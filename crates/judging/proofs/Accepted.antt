@@ -39,8 +39,8 @@ credit-le : (ss : List Standard) (m : ℕ) (u : UnitRecord) → u .effective ≤
 unfolding credit
 credit-le ss m u h = go (eqb (u .«module») m)
   where
-    go : (b : Bool) → cond b (u .effective * timeOf (inForce ss (u .recipe) (u .time))) 0 ≤ cond b (u .actual * timeOf (inForce ss (u .recipe) (u .time))) 0
-    go true = mul-le-mul-right (timeOf (inForce ss (u .recipe) (u .time))) h
+    go : (b : Bool) → cond b (u .effective * timeOf (inForce ss (u .«module») (u .recipe) (u .time))) 0 ≤ cond b (u .actual * timeOf (inForce ss (u .«module») (u .recipe) (u .time))) 0
+    go true = mul-le-mul-right (timeOf (inForce ss (u .«module») (u .recipe) (u .time))) h
     go false = le-refl 0
 
 theoretical-le : (period modules : ℕ) (ss : List Standard) (earlier : List UnitRecord) (i : ℕ) (us : List UnitRecord) (m : ℕ) → inTurn (unitGround period modules ss) earlier i us ≡ Accepted

@@ -68,7 +68,7 @@ module _ (s : List ℕ) where
     abbrev units : Verdict
     units =
         let h = headerOf s in
-        standardGrounds (h .period) (upTo (standardAt s h) (h .standards)) then unitGrounds (h .period) (h .modules) (upTo (standardAt s h) (h .standards)) (upTo (unitAt s h) (h .units))
+        standardGrounds (h .period) (h .modules) (upTo (standardAt s h) (h .standards)) then unitGrounds (h .period) (h .modules) (upTo (standardAt s h) (h .standards)) (upTo (unitAt s h) (h .units))
 
     in-parts : verdict s ≡ states then (units then sumGrounds (decode s))
     unfolding recordGrounds decode
@@ -76,7 +76,7 @@ module _ (s : List ℕ) where
         let h = headerOf s in
         by-records
         ∙ ap (λ (w : Verdict). states then w)
-        (sym (then-assoc (standardGrounds (h .period) (upTo (standardAt s h) (h .standards))) (unitGrounds (h .period) (h .modules) (upTo (standardAt s h) (h .standards)) (upTo (unitAt s h) (h .units))) (sumGrounds (decode s))))
+        (sym (then-assoc (standardGrounds (h .period) (h .modules) (upTo (standardAt s h) (h .standards))) (unitGrounds (h .period) (h .modules) (upTo (standardAt s h) (h .standards)) (upTo (unitAt s h) (h .units))) (sumGrounds (decode s))))
 
     -- the state records
     pub judged-states : (h : Header) → h ≡ headerOf s → (v : Verdict) (x : Refusal) (T U : List ℕ) → Tallied (upTo (stateAt s) (h .states)) (h .period) (h .modules) v T U → v ≡ Refused x
@@ -134,7 +134,7 @@ module _ (s : List ℕ) where
               begun = n .period .0;
               short = n .period .1;
               states = states-fine;
-              units = then-right (standardGrounds (headerOf s .period) (upTo (standardAt s (headerOf s)) (headerOf s .standards))) _ units-fine;
+              units = then-right (standardGrounds (headerOf s .period) (headerOf s .modules) (upTo (standardAt s (headerOf s)) (headerOf s .standards))) _ units-fine;
             }
 
         -- the sums

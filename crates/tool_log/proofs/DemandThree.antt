@@ -78,12 +78,12 @@ module _ (s : List ℕ) (a : verdict s ≡ Accepted) where
   unfolding recordGrounds
   states = then-left (stateGrounds (decode s .period) (decode s .modules) (decode s .states)) _ records
 
-  after-states : (standardGrounds (decode s .period) (decode s .standards) then unitGrounds (decode s .period) (decode s .modules) (decode s .standards) (decode s .units) then sumGrounds (decode s)) ≡ Accepted
+  after-states : (standardGrounds (decode s .period) (decode s .modules) (decode s .standards) then unitGrounds (decode s .period) (decode s .modules) (decode s .standards) (decode s .units) then sumGrounds (decode s)) ≡ Accepted
   unfolding recordGrounds
   after-states = then-right (stateGrounds (decode s .period) (decode s .modules) (decode s .states)) _ records
 
   after-standards : (unitGrounds (decode s .period) (decode s .modules) (decode s .standards) (decode s .units) then sumGrounds (decode s)) ≡ Accepted
-  after-standards = then-right (standardGrounds (decode s .period) (decode s .standards)) _ after-states
+  after-standards = then-right (standardGrounds (decode s .period) (decode s .modules) (decode s .standards)) _ after-states
 
   fast : firstOf (fastGround (decode s)) (decode s .modules) ≡ Accepted
   unfolding sumGrounds

@@ -9,4 +9,4 @@ use Rattle.writing.specs.Cases.{cases, AllRight}
 pub right : AllRight cases
 unfolding addAnswer addBuffer addVerdict written packed putFields putField bytesOf number putBit bit
 right =
-    (record { answer = refl; left = refl }, (record { answer = refl; left = refl }, (record { answer = refl; left = refl }, (record { answer = refl; left = refl }, (record { answer = refl; left = refl }, (record { answer = refl; left = refl }, (record { answer = refl; left = refl }, (record { answer = refl; left = refl }, tt))))))))
+    (record { answer = refl; left = refl }, (record { answer = refl; left = refl }, (record { answer = refl; left = refl }, (record { answer = refl; left = refl }, (record { answer = refl; left = refl }, (record { answer = refl; left = refl }, (record { answer = refl; left = refl }, (record { answer = refl; left = refl }, (record { answer = refl; left = refl }, tt)))))))))

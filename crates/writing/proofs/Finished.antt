@@ -54,8 +54,8 @@ module _ {A : Type 0} (of : A → Entry) (size : ℕ) (slots : A → List Slot) 
 state-faithful : (r : StateRecord) → r .spare ≡ 0 → Faithful ofState 6 stateSlots r
 state-faithful r e = record { same = rw e; sized = refl }
 
-standard-faithful : (s : Standard) → Faithful ofStandard 9 standardSlots s
-standard-faithful s = record { same = refl; sized = refl }
+standard-faithful : (s : Standard) → s .spare ≡ 0 → Faithful ofStandard 10 standardSlots s
+standard-faithful s e = record { same = rw e; sized = refl }
 
 unit-faithful : (u : UnitRecord) → u .spare ≡ 0 → Faithful ofUnit 11 unitSlots u
 unit-faithful u e = record { same = rw e; sized = refl }
@@ -66,8 +66,8 @@ module _ (l : Log) (plain : NoSpare l) where
   states : Each (Faithful ofState 6 stateSlots) (l .states)
   states = each state-faithful (l .states) (plain .states)
 
-  standards : Each (Faithful ofStandard 9 standardSlots) (l .standards)
-  standards = all standard-faithful (l .standards)
+  standards : Each (Faithful ofStandard 10 standardSlots) (l .standards)
+  standards = each standard-faithful (l .standards) (plain .standards)
 
   units : Each (Faithful ofUnit 11 unitSlots) (l .units)
   units = each unit-faithful (l .units) (plain .units)
@@ -79,14 +79,14 @@ module _ (l : Log) (plain : NoSpare l) where
       let us = map ofUnit (l .units) in
       let ss = map ofStandard (l .standards) in
       let last : joined entryBytes us ≡ joined unitBytes (l .units) = ap (joined entryBytes) (sym (append-nil us)) ∙ list-bytes ofUnit 11 unitSlots (l .units) [] units ∙ append-nil (joined unitBytes (l .units)) in
-      rw (list-bytes ofState 6 stateSlots (l .states) (ss ++ us) states, list-bytes ofStandard 9 standardSlots (l .standards) us standards, last)
+      rw (list-bytes ofState 6 stateSlots (l .states) (ss ++ us) states, list-bytes ofStandard 10 standardSlots (l .standards) us standards, last)
 
   -- a log fits its fields where its entries do, and the other way round
   pub entries-fit : AllFit (λ e. e .slots) (entriesOf l) → LogFits l
   entries-fit fit =
       let us = map ofUnit (l .units) in
       let a = list-fits ofState 6 stateSlots (l .states) (map ofStandard (l .standards) ++ us) states (fit .1) in
-      let b = list-fits ofStandard 9 standardSlots (l .standards) us standards (a .1) in
+      let b = list-fits ofStandard 10 standardSlots (l .standards) us standards (a .1) in
       let c = list-fits ofUnit 11 unitSlots (l .units) [] units (rw (append-nil us) (b .1)) in
       record { header = fit .0; states = a .0; standards = b .0; units = c .0 }
 
@@ -95,7 +95,7 @@ module _ (l : Log) (plain : NoSpare l) where
       let us = map ofUnit (l .units) in
       let c : AllFit (λ e. e .slots) (us ++ []) = list-fitting ofUnit 11 unitSlots (l .units) [] units (fit .units) tt in
       let d : AllFit (λ e. e .slots) us = rw (append-nil us) at c in
-      let b = list-fitting ofStandard 9 standardSlots (l .standards) us standards (fit .standards) d in
+      let b = list-fitting ofStandard 10 standardSlots (l .standards) us standards (fit .standards) d in
       (fit .header, list-fitting ofState 6 stateSlots (l .states) (map ofStandard (l .standards) ++ us) states (fit .states) b)
 
 -- the finishing call at the position of a run answers the verdict on the bytes before it

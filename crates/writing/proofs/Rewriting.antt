@@ -20,7 +20,7 @@ use Rattle.records.proofs.Widths.{decode-fits}
 use Rattle.rules.specs.declared.Verdict.{Verdict}
 use Rattle.rules.specs.declared.Verdict.the-variants.{Accepted}
 use Rattle.rules.specs.Grounds.{ground, _then_, firstOf, inTurn}
-use Rattle.rules.specs.RecordGrounds.{stateGround, openingGround, stateGrounds, standardGrounds, unitGround, unitGrounds}
+use Rattle.rules.specs.RecordGrounds.{stateGround, openingGround, stateGrounds, standardGround, standardGrounds, unitGround, unitGrounds}
 use Rattle.rules.specs.Verdict.{headerGrounds, sumGrounds, recordGrounds, verdict}
 use Rattle.rules.proofs.FirstGround.{then-left, then-right, not-met}
 use Rattle.rules.proofs.Risen.{whole-length}
@@ -44,16 +44,20 @@ state-spare : (period modules : ℕ) (earlier : List StateRecord) (i : ℕ) (r :
 unfolding stateGround
 state-spare period modules earlier i r e = zero-spare 6 1 i (r .spare) _ e
 
+standard-spare : (period modules : ℕ) (earlier : List Standard) (i : ℕ) (s : Standard) → standardGround period modules earlier i s ≡ Accepted → s .spare ≡ 0
+unfolding standardGround
+standard-spare period modules earlier i s e = zero-spare 6 2 i (s .spare) _ e
+
 unit-spare : (period modules : ℕ) (ss : List Standard) (earlier : List UnitRecord) (i : ℕ) (u : UnitRecord) → unitGround period modules ss earlier i u ≡ Accepted → u .spare ≡ 0
 unfolding unitGround
 unit-spare period modules ss earlier i u e = zero-spare 6 3 i (u .spare) _ e
 
 pub no-spare : (s : List ℕ) → verdict s ≡ Accepted → NoSpare (decode s)
-unfolding verdict recordGrounds stateGrounds unitGrounds
+unfolding verdict recordGrounds stateGrounds standardGrounds unitGrounds
 no-spare s e =
     let l = decode s in
     let states = stateGrounds (l .period) (l .modules) (l .states) in
-    let standards = standardGrounds (l .period) (l .standards) in
+    let standards = standardGrounds (l .period) (l .modules) (l .standards) in
     let units = unitGrounds (l .period) (l .modules) (l .standards) (l .units) in
     let a : recordGrounds l ≡ Accepted = then-right (headerGrounds s) _ e in
     let b : standards then units then sumGrounds l ≡ Accepted = then-right states _ a in
@@ -61,6 +65,7 @@ no-spare s e =
     record {
       states = turn-each (stateGround (l .period) (l .modules)) (state-spare (l .period) (l .modules)) [] 0 (l .states)
           (then-left (inTurn (stateGround (l .period) (l .modules)) [] 0 (l .states)) (firstOf (openingGround (l .states)) (l .modules)) (then-left states _ a));
+      standards = turn-each (standardGround (l .period) (l .modules)) (standard-spare (l .period) (l .modules)) [] 0 (l .standards) (then-left standards _ b);
       units = turn-each (unitGround (l .period) (l .modules) (l .standards)) (unit-spare (l .period) (l .modules) (l .standards)) [] 0 (l .units) c;
     }
 

@@ -19,14 +19,14 @@ state-lt m c t h k l = omega arith
 pub state-value : (m c t : ℕ) → m * 2 ^ 42 + c * 2 ^ 37 + t * 2 ^ 2 ≡ valueOf (stateEntry m c t .slots)
 state-value m c t = omega arith
 
-pub standard-lt : (r s t : ℕ) → r < 2 ^ 10 → s < 2 ^ 35 → t < 2 ^ 27 → r * 2 ^ 54 + s * 2 ^ 19 + t / 2 ^ 8 < 2 ^ 64
-standard-lt r s t h k l = omega arith
+pub standard-lt : (m r s t : ℕ) → m < 2 ^ 6 → r < 2 ^ 10 → s < 2 ^ 35 → t < 2 ^ 27 → m * 2 ^ 58 + r * 2 ^ 48 + s * 2 ^ 13 + t / 2 ^ 14 < 2 ^ 64
+standard-lt m r s t g h k l = omega arith
 
-pub standard-first : (r s t : ℕ) → r * 2 ^ 54 + s * 2 ^ 19 + t / 2 ^ 8 ≡ valueOf (standardEntry r s t .slots) / 2 ^ 8
-standard-first r s t = omega arith
+pub standard-first : (m r s t : ℕ) → m * 2 ^ 58 + r * 2 ^ 48 + s * 2 ^ 13 + t / 2 ^ 14 ≡ valueOf (standardEntry m r s t .slots) / 2 ^ 16
+standard-first m r s t = omega arith
 
-pub standard-second : (r s t : ℕ) → t % 2 ^ 8 ≡ valueOf (standardEntry r s t .slots) % 2 ^ 8
-standard-second r s t = omega arith
+pub standard-second : (m r s t : ℕ) → t * 4 % 2 ^ 16 ≡ valueOf (standardEntry m r s t .slots) % 2 ^ 16
+standard-second m r s t = omega arith
 
 pub unit-lt : (m r t a : ℕ) → m < 2 ^ 6 → r < 2 ^ 10 → t < 2 ^ 35 → a < 2 ^ 16 → m * 2 ^ 58 + r * 2 ^ 48 + t * 2 ^ 13 + a / 2 ^ 3 < 2 ^ 64
 unit-lt m r t a h k l n = omega arith

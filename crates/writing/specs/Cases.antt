@@ -25,10 +25,12 @@ cases =
     record { entry = stateEntry 63 31 34359738367; room = 7; at = 1; answer = Answered 7; left = 255 ∷ 255 ∷ 255 ∷ 255 ∷ 255 ∷ 255 ∷ 252 ∷ [] }
     -- module 1, code 2, time 3: 000001 00010 and 35 bits that end in 11, then the spare bits
     ∷ record { entry = stateEntry 1 2 3; room = 8; at = 1; answer = Answered 7; left = 255 ∷ 4 ∷ 64 ∷ 0 ∷ 0 ∷ 0 ∷ 12 ∷ 255 ∷ [] }
-    -- recipe 1, start 1, 1 ms: 0000000001, 35 bits and 27 bits that end in 1
-    ∷ record { entry = standardEntry 1 1 1; room = 9; at = 0; answer = Answered 9; left = 0 ∷ 64 ∷ 0 ∷ 0 ∷ 0 ∷ 8 ∷ 0 ∷ 0 ∷ 1 ∷ [] }
+    -- module 2, recipe 1, start 1, 1 ms: 000010 0000000001, 35 bits and 27 bits that end in 1, then the spare bits
+    ∷ record { entry = standardEntry 2 1 1 1; room = 10; at = 0; answer = Answered 10; left = 8 ∷ 1 ∷ 0 ∷ 0 ∷ 0 ∷ 0 ∷ 32 ∷ 0 ∷ 0 ∷ 4 ∷ [] }
     -- 32 is one past the greatest code
     ∷ record { entry = stateEntry 0 32 0; room = 6; at = 0; answer = refusal 22 1; left = replicate 6 255 }
+    -- and 64 one past the greatest module
+    ∷ record { entry = standardEntry 64 0 0 1; room = 10; at = 0; answer = refusal 22 2; left = replicate 10 255 }
     -- a buffer of ten bytes has no place for a unit record of eleven
     ∷ record { entry = unitEntry 0 0 0 0 0; room = 10; at = 0; answer = refusal 18 0; left = replicate 10 255 }
     -- both: the value is tested first

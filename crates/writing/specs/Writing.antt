@@ -43,9 +43,9 @@ headerEntry period modules states standards units =
 abbrev pub stateEntry : ℕ → ℕ → ℕ → Entry
 stateEntry m code time = record { list = ofStates; size = 6; slots = stateSlots (record { «module» = m; code = code; time = time; spare = 0 }) }
 
-abbrev pub standardEntry : ℕ → ℕ → ℕ → Entry
-standardEntry recipe start theoretical =
-    record { list = ofStandards; size = 9; slots = standardSlots (record { recipe = recipe; start = start; theoretical = theoretical }) }
+abbrev pub standardEntry : ℕ → ℕ → ℕ → ℕ → Entry
+standardEntry m recipe start theoretical =
+    record { list = ofStandards; size = 10; slots = standardSlots (record { «module» = m; recipe = recipe; start = start; theoretical = theoretical; spare = 0 }) }
 
 abbrev pub unitEntry : ℕ → ℕ → ℕ → ℕ → ℕ → Entry
 unitEntry m recipe time actual effective =

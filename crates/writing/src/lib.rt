@@ -58,10 +58,10 @@ fn state_too_wide(module: u64, code: u64, time: u64) -> bool
     0x40 <= module || (0x20 <= code || 0x8_0000_0000 <= time)
 }
 
-fn standard_too_wide(recipe: u64, start: u64, theoretical: u64) -> bool
-    ensures { λ r. ⌜ r ≡ anyTooWide (standardEntry recipe start theoretical .slots) ⌝ }
+fn standard_too_wide(module: u64, recipe: u64, start: u64, theoretical: u64) -> bool
+    ensures { λ r. ⌜ r ≡ anyTooWide (standardEntry «module» recipe start theoretical .slots) ⌝ }
 {
-    0x400 <= recipe || (0x8_0000_0000 <= start || 0x800_0000 <= theoretical)
+    0x40 <= module || (0x400 <= recipe || (0x8_0000_0000 <= start || 0x800_0000 <= theoretical))
 }
 
 fn unit_too_wide(module: u64, recipe: u64, time: u64, actual: u64, effective: u64) -> bool
@@ -107,17 +107,22 @@ pub fn put_state(buf: &mut [u8], at: usize, module: u64, code: u64, time: u64) -
 pub fn put_standard(
     buf: &mut [u8],
     at: usize,
+    module: u64,
     recipe: u64,
     start: u64,
     theoretical: u64,
 ) -> PositionAnswer
-    ensures { λ r. ⌜ Added (standardEntry recipe start theoretical) (now (buf .entry)) at r (now (buf .exit)) ⌝ }
+    ensures { λ r. ⌜ Added (standardEntry «module» recipe start theoretical) (now (buf .entry)) at r (now (buf .exit)) ⌝ }
 {
-    if standard_too_wide(recipe, start, theoretical) {
+    if standard_too_wide(module, recipe, start, theoretical) {
         return refused(22, 2);
     }
-    let first = recipe * 0x40_0000_0000_0000 + start * 0x8_0000 + theoretical / 0x100;
-    add(buf, at, 8, first, 1, theoretical)
+    let first = module * 0x400_0000_0000_0000
+        + recipe * 0x1_0000_0000_0000
+        + start * 0x2000
+        + theoretical / 0x4000;
+    let second = theoretical * 4;
+    add(buf, at, 8, first, 2, second)
 }
 
 // Adds a unit record.
