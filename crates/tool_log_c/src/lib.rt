@@ -169,16 +169,17 @@ pub extern "C" fn tl_put_state(
 pub extern "C" fn tl_put_standard(
     buf: &mut [u8],
     at: usize,
+    module: u64,
     recipe: u64,
     start: u64,
     theoretical: u64,
     next: &mut [u64; 1],
     refusal: &mut [u64; 3],
 ) -> u32
-    ensures { λ r. ⌜ TellsAdding (standardEntry recipe start theoretical) (now (buf .entry)) at (now (next .entry)) r (now (buf .exit)) (now (next .exit)) (now (refusal .exit)) ⌝ }
+    ensures { λ r. ⌜ TellsAdding (standardEntry «module» recipe start theoretical) (now (buf .entry)) at (now (next .entry)) r (now (buf .exit)) (now (next .exit)) (now (refusal .exit)) ⌝ }
 {
     telling::tell_position(
-        tool_log::put_standard(buf, at, recipe, start, theoretical),
+        tool_log::put_standard(buf, at, module, recipe, start, theoretical),
         next,
         refusal,
     )
