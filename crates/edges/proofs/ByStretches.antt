@@ -103,7 +103,7 @@ verdictBy s =
     let l = decode s in
     headerGrounds s
     then statesOf l
-    then standardGrounds (l .period) (l .standards)
+    then standardGrounds (l .period) (l .modules) (l .standards)
     then unitGrounds (l .period) (l .modules) (l .standards) (l .units)
     then firstOf (fastBy l) (l .modules)
 
@@ -114,6 +114,6 @@ verdict-by-stretches s =
     then-same (headerGrounds s) _ _ (λ header.
     let n = counted s (headerOf s) refl header in
     then-same (statesOf l) _ _ (λ states.
-    then-same (standardGrounds (l .period) (l .standards)) _ _ (λ standards.
+    then-same (standardGrounds (l .period) (l .modules) (l .standards)) _ _ (λ standards.
     then-same (unitGrounds (l .period) (l .modules) (l .standards) (l .units)) _ _ (λ units.
     sums-by-stretches l (record { one-module = n .modules .0; few = n .modules .1; begun = n .period .0; short = n .period .1; states = states; units = units })))))

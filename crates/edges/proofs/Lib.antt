@@ -3,3 +3,4 @@ pub mod StarredCases
 pub mod CaseWWhole
 pub mod SequenceCases
 pub mod AppendixExample
+pub mod ModuleCases

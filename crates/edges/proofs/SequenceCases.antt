@@ -10,7 +10,7 @@ use Rattle.edges.proofs.StarredCases.{AllCompute, done, _and_, all}
 
 computed : AllCompute sequences
 unfolding verdictBy encode number bytesOf putBit
-computed = refl and refl and refl and refl and refl and refl and refl and refl and refl and refl and refl and refl and done
+computed = refl and refl and refl and refl and refl and refl and refl and refl and refl and refl and refl and refl and refl and refl and done
 
 pub listings : All sequences
 listings = all computed

@@ -1,4 +1,4 @@
--- Case W of document 01 whole: the 100 bytes of its log, what they say, and the 183 bytes of its report. Definitions only.
+-- Case W of document 01 whole: the 121 bytes of its log, what they say, and the 183 bytes of its report. Definitions only.
 use Prim.Native.Nat.{ℕ}
 use mathlib.Core.Path.{_≡_}
 use mathlib.Core.List.{List, [], _∷_, _++_}
@@ -9,12 +9,12 @@ use Rattle.rules.specs.declared.Verdict.the-variants.{Accepted}
 use Rattle.rules.specs.Verdict.{verdict}
 use Rattle.report.specs.Text.{ascii}
 use Rattle.reporting.specs.Reports.{reportText, verdictFor, writtenPart}
-use Rattle.edges.specs.Cases.{state, standard, log, refused}
+use Rattle.edges.specs.Cases.{state, standardOf, log, refused}
 
--- the bytes of the log, a line for each record: the header, eight state records, one standard, three unit records
+-- the bytes of the log, a line for each record: the header, eight state records, three standards, three unit records
 unfoldable pub caseW : List ℕ
 caseW =
-    0x04 ∷ 0x81 ∷ 0x90 ∷ 0x80 ∷ 0x00 ∷ 0xc0 ∷ 0x08 ∷ 0x00 ∷ 0x20 ∷ 0x03
+    0x04 ∷ 0x81 ∷ 0x90 ∷ 0x80 ∷ 0x00 ∷ 0xc0 ∷ 0x08 ∷ 0x00 ∷ 0x60 ∷ 0x03
     ∷ 0x00 ∷ 0x00 ∷ 0x00 ∷ 0x00 ∷ 0x00 ∷ 0x00
     ∷ 0x04 ∷ 0x00 ∷ 0x00 ∷ 0x00 ∷ 0x00 ∷ 0x00
     ∷ 0x08 ∷ 0x00 ∷ 0x00 ∷ 0x00 ∷ 0x00 ∷ 0x00
@@ -23,7 +23,9 @@ caseW =
     ∷ 0x00 ∷ 0xe0 ∷ 0x80 ∷ 0xbe ∷ 0xfc ∷ 0x00
     ∷ 0x06 ∷ 0x40 ∷ 0x87 ∷ 0x9c ∷ 0xcc ∷ 0x00
     ∷ 0x02 ∷ 0x40 ∷ 0x8b ∷ 0xe7 ∷ 0x6e ∷ 0x00
-    ∷ 0x00 ∷ 0x00 ∷ 0x00 ∷ 0x00 ∷ 0x00 ∷ 0x00 ∷ 0x1b ∷ 0x77 ∷ 0x40
+    ∷ 0x00 ∷ 0x00 ∷ 0x00 ∷ 0x00 ∷ 0x00 ∷ 0x00 ∷ 0x00 ∷ 0x6d ∷ 0xdd ∷ 0x00
+    ∷ 0x04 ∷ 0x00 ∷ 0x00 ∷ 0x00 ∷ 0x00 ∷ 0x00 ∷ 0x00 ∷ 0x6d ∷ 0xdd ∷ 0x00
+    ∷ 0x08 ∷ 0x00 ∷ 0x00 ∷ 0x00 ∷ 0x00 ∷ 0x00 ∷ 0x00 ∷ 0x6d ∷ 0xdd ∷ 0x00
     ∷ 0x00 ∷ 0x00 ∷ 0x00 ∷ 0x06 ∷ 0xdd ∷ 0xd0 ∷ 0x00 ∷ 0x23 ∷ 0x00 ∷ 0x20 ∷ 0xa0
     ∷ 0x04 ∷ 0x00 ∷ 0x00 ∷ 0x06 ∷ 0xdd ∷ 0xd0 ∷ 0x00 ∷ 0x24 ∷ 0x40 ∷ 0x22 ∷ 0xc0
     ∷ 0x08 ∷ 0x00 ∷ 0x00 ∷ 0x06 ∷ 0xdd ∷ 0xd0 ∷ 0x00 ∷ 0x12 ∷ 0xc0 ∷ 0x12 ∷ 0xc0 ∷ []
@@ -32,12 +34,12 @@ caseW =
 abbrev pub unitsOf : ℕ → ℕ → ℕ → UnitRecord
 unitsOf m actual effective = record { «module» = m; recipe = 0; time = 3600000; actual = actual; effective = effective; spare = 0 }
 
--- the numbers of document 01
+-- the numbers of document 01, with R-5's standard for each module
 unfoldable pub caseWLog : Log
 caseWLog =
     log 604800000 3
     (state 0 0 0 ∷ state 1 0 0 ∷ state 2 0 0 ∷ state 2 7 288000000 ∷ state 1 7 532800000 ∷ state 0 7 540000000 ∷ state 1 18 568800000 ∷ state 0 18 586800000 ∷ [])
-    (standard 0 1800000 ∷ [])
+    (standardOf 0 0 0 1800000 ∷ standardOf 1 0 0 1800000 ∷ standardOf 2 0 0 1800000 ∷ [])
     (unitsOf 0 280 261 ∷ unitsOf 1 290 278 ∷ unitsOf 2 150 150 ∷ [])
 
 -- the whole report

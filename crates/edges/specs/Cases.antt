@@ -51,9 +51,12 @@ All (c ∷ cs) = Holds c × All cs
 abbrev pub state : ℕ → ℕ → ℕ → StateRecord
 state m code time = record { «module» = m; code = code; time = time; spare = 0 }
 
--- a theoretical time for recipe 0
+-- a theoretical time of module m for a recipe, and of module 0 for recipe 0
+abbrev pub standardOf : ℕ → ℕ → ℕ → ℕ → Standard
+standardOf m recipe start theoretical = record { «module» = m; recipe = recipe; start = start; theoretical = theoretical; spare = 0 }
+
 abbrev pub standard : ℕ → ℕ → Standard
-standard start theoretical = record { recipe = 0; start = start; theoretical = theoretical }
+standard start theoretical = standardOf 0 0 start theoretical
 
 -- units of recipe 0, made by module 0
 abbrev pub units : ℕ → ℕ → ℕ → UnitRecord
