@@ -15,7 +15,8 @@ abbrev pub sameState : StateRecord → StateRecord → Bool
 sameState a b = eqb (a .«module») (b .«module») && (eqb (a .code) (b .code) && (eqb (a .time) (b .time) && eqb (a .spare) (b .spare)))
 
 abbrev pub sameStandard : Standard → Standard → Bool
-sameStandard a b = eqb (a .recipe) (b .recipe) && (eqb (a .start) (b .start) && eqb (a .theoretical) (b .theoretical))
+sameStandard a b =
+    eqb (a .«module») (b .«module») && (eqb (a .recipe) (b .recipe) && (eqb (a .start) (b .start) && (eqb (a .theoretical) (b .theoretical) && eqb (a .spare) (b .spare))))
 
 abbrev pub sameUnit : UnitRecord → UnitRecord → Bool
 sameUnit a b =

@@ -1,4 +1,4 @@
-// Case W of document 01: its 100 bytes, laid out by hand from the document's numbers, are decoded by the calls that the library reads a log by and
+// Case W of document 01: its 121 bytes, laid out by hand from the document's numbers, are decoded by the calls that the library reads a log by and
 // compared with those numbers; then the headers of shorter slices. Prints each entry that differs. Four entries have a number changed and have to
 // be told, so that a program that says nothing fails; the last line says what was compared.
 ghost use mathlib.Core.Path.{_≡_};
@@ -8,8 +8,8 @@ ghost use Rattle.case_w.specs.Same.{sameHeader, sameState, sameStandard,
 use libc::STDOUT_FILENO;
 use records::Header;
 
-// Header, eight state records, one standard, three unit records.
-const LOG: [u8; 100] = [
+// Header, eight state records, three standards, three unit records.
+const LOG: [u8; 121] = [
     0x04,
     0x81,
     0x90,
@@ -18,7 +18,7 @@ const LOG: [u8; 100] = [
     0xc0,
     0x08,
     0x00,
-    0x20,
+    0x60,
     0x03,
     0x00,
     0x00,
@@ -74,9 +74,30 @@ const LOG: [u8; 100] = [
     0x00,
     0x00,
     0x00,
-    0x1b,
-    0x77,
-    0x40,
+    0x00,
+    0x6d,
+    0xdd,
+    0x00,
+    0x04,
+    0x00,
+    0x00,
+    0x00,
+    0x00,
+    0x00,
+    0x00,
+    0x6d,
+    0xdd,
+    0x00,
+    0x08,
+    0x00,
+    0x00,
+    0x00,
+    0x00,
+    0x00,
+    0x00,
+    0x6d,
+    0xdd,
+    0x00,
     0x00,
     0x00,
     0x00,
@@ -138,33 +159,36 @@ fn header_is(
 }
 
 // Whether these are the numbers of state record i, with spare bits of 0.
-fn state_is(log: &[u8; 100], i: usize, module: usize, code: usize, time: u64) -> bool
-    requires { ⌜ 10 + 6 * i + 6 ≤ 100 ⌝ }
+fn state_is(log: &[u8; 121], i: usize, module: usize, code: usize, time: u64) -> bool
+    requires { ⌜ 10 + 6 * i + 6 ≤ 121 ⌝ }
     ensures { λ r. ⌜ r ≡ sameState (stateAt (now (log .entry)) i) (record { «module» = «module»; code = code; time = time; spare = 0 }) ⌝ }
 {
     let r = records::state_within(log, i);
     (r.module == module) & ((r.code == code) & ((r.time == time) & (r.spare == 0)))
 }
 
-// Whether these are the numbers of standard i.
+// Whether these are the numbers of standard i, with spare bits of 0.
 fn standard_is(
-    log: &[u8; 100],
+    log: &[u8; 121],
     h: Header,
     i: usize,
+    module: usize,
     recipe: usize,
     start: u64,
     theoretical: u64,
 ) -> bool
-    requires { ⌜ 10 + 6 * h .states + 10 * i + 10 ≤ 100 ⌝ }
-    ensures { λ r. ⌜ r ≡ sameStandard (standardAt (now (log .entry)) h i) (record { recipe = recipe; start = start; theoretical = theoretical }) ⌝ }
+    requires { ⌜ 10 + 6 * h .states + 10 * i + 10 ≤ 121 ⌝ }
+    ensures { λ r. ⌜ r ≡ sameStandard (standardAt (now (log .entry)) h i) (record { «module» = «module»; recipe = recipe; start = start; theoretical = theoretical; spare = 0 }) ⌝ }
 {
     let r = records::standard_within(log, h, i);
-    (r.recipe == recipe) & ((r.start == start) & (r.theoretical == theoretical))
+    (r.module == module)
+        & ((r.recipe == recipe)
+            & ((r.start == start) & ((r.theoretical == theoretical) & (r.spare == 0))))
 }
 
 // Whether these are the numbers of unit record i, with recipe 0 and spare bits of 0.
 fn unit_is(
-    log: &[u8; 100],
+    log: &[u8; 121],
     h: Header,
     i: usize,
     module: usize,
@@ -172,7 +196,7 @@ fn unit_is(
     actual: u64,
     effective: u64,
 ) -> bool
-    requires { ⌜ 10 + 6 * h .states + 10 * h .standards + 11 * i + 11 ≤ 100 ⌝ }
+    requires { ⌜ 10 + 6 * h .states + 10 * h .standards + 11 * i + 11 ≤ 121 ⌝ }
     ensures { λ r. ⌜ r ≡ sameUnit (unitAt (now (log .entry)) h i) (record { «module» = «module»; recipe = 0; time = time; actual = actual; effective = effective; spare = 0 }) ⌝ }
 {
     let r = records::unit_within(log, h, i);
@@ -182,7 +206,7 @@ fn unit_is(
                 & ((r.actual == actual) & ((r.effective == effective) & (r.spare == 0)))))
 }
 
-fn states(log: &[u8; 100]) {
+fn states(log: &[u8; 121]) {
     tell(state_is(log, 0, 0, 0, 0), b"state record 0");
     tell(state_is(log, 1, 1, 0, 0), b"state record 1");
     tell(state_is(log, 2, 2, 0, 0), b"state record 2");
@@ -193,21 +217,23 @@ fn states(log: &[u8; 100]) {
     tell(state_is(log, 7, 0, 18, 586800000), b"state record 7");
 }
 
-fn standards_and_units(log: &[u8; 100], h: Header)
-    requires { ⌜ (h .states ≡ 8) × (h .standards ≡ 1) ⌝ }
+fn standards_and_units(log: &[u8; 121], h: Header)
+    requires { ⌜ (h .states ≡ 8) × (h .standards ≡ 3) ⌝ }
 {
-    tell(standard_is(log, h, 0, 0, 0, 1800000), b"standard 0");
+    tell(standard_is(log, h, 0, 0, 0, 0, 1800000), b"standard 0");
+    tell(standard_is(log, h, 1, 1, 0, 0, 1800000), b"standard 1");
+    tell(standard_is(log, h, 2, 2, 0, 0, 1800000), b"standard 2");
     tell(unit_is(log, h, 0, 0, 3600000, 280, 261), b"unit record 0");
     tell(unit_is(log, h, 1, 1, 3600000, 290, 278), b"unit record 1");
     tell(unit_is(log, h, 2, 2, 3600000, 150, 150), b"unit record 2");
 }
 
 // An entry of each kind with one number changed.
-fn changed(log: &[u8; 100], h: Header)
-    requires { ⌜ (h .states ≡ 8) × (h .standards ≡ 1) ⌝ }
+fn changed(log: &[u8; 121], h: Header)
+    requires { ⌜ (h .states ≡ 8) × (h .standards ≡ 3) ⌝ }
 {
     tell(
-        header_is(log, 604800000, 3, 8, 1, 4),
+        header_is(log, 604800000, 3, 8, 3, 4),
         b"header with one unit record more",
     );
     tell(
@@ -215,8 +241,8 @@ fn changed(log: &[u8; 100], h: Header)
         b"state record 7 one millisecond later",
     );
     tell(
-        standard_is(log, h, 0, 0, 0, 1800001),
-        b"standard 0 with one millisecond more",
+        standard_is(log, h, 2, 1, 0, 0, 1800000),
+        b"standard 2 as module 1's",
     );
     tell(
         unit_is(log, h, 2, 2, 3600000, 150, 151),
@@ -225,12 +251,12 @@ fn changed(log: &[u8; 100], h: Header)
 }
 
 // The standards and the units stand where the header's counts put them: they are read where these are case W's.
-fn whole_log(log: &[u8; 100]) {
-    tell(header_is(log, 604800000, 3, 8, 1, 3), b"header");
+fn whole_log(log: &[u8; 121]) {
+    tell(header_is(log, 604800000, 3, 8, 3, 3), b"header");
     states(log);
     let h = records::read_header(log);
     if h.states == 8 {
-        if h.standards == 1 {
+        if h.standards == 3 {
             standards_and_units(log, h);
             changed(log, h);
         }
@@ -248,6 +274,6 @@ fn main() {
     );
     io::write_all(
         STDOUT_FILENO,
-        b"case W: the header, 8 state records, 1 standard and 3 unit records compared, and the headers of 0 and 3 bytes; 4 changed entries told\n",
+        b"case W: the header, 8 state records, 3 standards and 3 unit records compared, and the headers of 0 and 3 bytes; 4 changed entries told\n",
     );
 }
