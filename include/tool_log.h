@@ -34,7 +34,7 @@ extern "C" {
 /* The longest report, and so a `buf_len` that suffices for every log. */
 #define TL_LONGEST_REPORT 2494
 /* The longest log. TL_LONGEST_LOG + 1 bytes of a longer one are enough to decide that it is refused. */
-#define TL_LONGEST_LOG 62618
+#define TL_LONGEST_LOG 63130
 /* The benchmarks of 512 standards, the most that a log has. Of longer ones a byte more is enough too. */
 #define TL_LONGEST_BENCHMARKS 7168
 #define TL_MOST_MODULES 64
@@ -94,7 +94,7 @@ enum { TL_NUMBER, TL_LIST, TL_PLACE, TL_REFUSAL };
     X(2, "period", "0 or over 366 days (31,622,400,000 ms)") \
     X(3, "modules", "0 or over 64") \
     X(4, "counts", "over 6,000 state records, 512 standards or 2,000 unit records") \
-    X(5, "length", "bytes other than 10 + 6 states + 9 standards + 11 units; benchmarks: 14 for each standard") \
+    X(5, "length", "bytes other than 10 + 6 states + 10 standards + 11 units; benchmarks: 14 for each standard") \
     X(6, "spare", "a spare bit set") \
     X(7, "stray module", "module at or above the module count") \
     X(8, "stray code", "sub-state code above 23") \
@@ -102,13 +102,13 @@ enum { TL_NUMBER, TL_LIST, TL_PLACE, TL_REFUSAL };
     X(10, "sequence", "time, then module, not above the record before, or not later than its own module's last") \
     X(11, "no opening", "a module whose first record is not at time 0, or that has none") \
     X(12, "no time", "theoretical time 0, or a time of a benchmark 0") \
-    X(13, "twice", "recipe and start both equal to an earlier standard's") \
+    X(13, "twice", "module, recipe and start all equal to an earlier standard's") \
     X(14, "over-good", "effective units above actual units") \
     X(15, "no standard", "none in force for a unit record") \
     X(16, "too fast", "a module's actual theoretical time above its production time") \
     X(17, "too great", "a tool sum above 9,007,199,254,740,991 ms") \
     X(18, "short buffer", "report longer than the buffer, or a record that does not fit at its position") \
-    X(19, "unsorted", "out of rising sequence: standards by recipe and start, units by time, module and recipe") \
+    X(19, "unsorted", "out of rising sequence: standards by module, recipe and start, units by time, module and recipe") \
     X(20, "above standard", "a time of a benchmark above its standard's theoretical time") \
     X(21, "over-counted", "total effective units of a benchmark above the effective units judged by its standard") \
     X(22, "too wide", "a value does not fit its field")
@@ -183,7 +183,7 @@ uint32_t tl_tool_figures(const uint8_t *log, size_t log_len, double figures[6], 
  * The supplemental figures of the tool, in ten-thousandths of its total time, rounded to the nearest, an exact half going up. None is over 10,000.
  *   reference, optimized, value-added   over all standards, summed: effective units judged by the standard x that time of its benchmark
  *   total effective units               over all standards, summed: total effective units of its benchmark x the standard's theoretical time
- * A unit record is judged by the standard in force for its recipe at its time, whichever module it is of.
+ * A unit record is judged by the standard in force for its module and recipe at its time.
  *
  * The benchmarks are lent as the log is: one for each standard of the log, in the standards' sequence, 14 bytes each. A benchmark is its reference,
  * optimized and value-added time, in ms for each unit, and its total effective units, 27 bits each, most significant bit first, and then 4 spare bits,
@@ -199,7 +199,9 @@ uint32_t tl_supplemental(const uint8_t *log, size_t log_len, const uint8_t *benc
 /*
  * Writing a log. Each of these four adds one record to `buf` at position `at`, in bytes from its front, and fills `next` with the position behind the
  * record: where the next one is to be added. Period, times, starts and theoretical times are in ms; spare bits become 0. No other byte of `buf`
- * changes, and on a refusal none does, nor does `next`. A log is the header, then the states, standards and units that it counts, from position 0 on:
+ * changes, and on a refusal none does, nor does `next`.
+ * A standard is in force for its own module and recipe alone, from its start on until that of their next one. A log is the header, then the states,
+ * standards and units that it counts, from position 0 on:
  *
  *     uint64_t at[1] = {0};
  *     tl_put_header(buf, buf_len, at[0], period, modules, states, standards, units, at, refusal)
@@ -216,8 +218,8 @@ uint32_t tl_supplemental(const uint8_t *log, size_t log_len, const uint8_t *benc
 uint32_t tl_put_header(uint8_t *buf, size_t buf_len, size_t at, uint64_t period, uint64_t modules, uint64_t states, uint64_t standards, uint64_t units,
                        uint64_t next[1], uint64_t refusal[3]);
 uint32_t tl_put_state(uint8_t *buf, size_t buf_len, size_t at, uint64_t module, uint64_t code, uint64_t time, uint64_t next[1], uint64_t refusal[3]);
-uint32_t tl_put_standard(uint8_t *buf, size_t buf_len, size_t at, uint64_t recipe, uint64_t start, uint64_t theoretical, uint64_t next[1],
-                         uint64_t refusal[3]);
+uint32_t tl_put_standard(uint8_t *buf, size_t buf_len, size_t at, uint64_t module, uint64_t recipe, uint64_t start, uint64_t theoretical,
+                         uint64_t next[1], uint64_t refusal[3]);
 uint32_t tl_put_unit(uint8_t *buf, size_t buf_len, size_t at, uint64_t module, uint64_t recipe, uint64_t time, uint64_t actual, uint64_t effective,
                      uint64_t next[1], uint64_t refusal[3]);
 
