@@ -26,10 +26,11 @@ struct written write_case_w(uint64_t late)
     uint64_t at[1] = {0}, refusal[3];
     uint32_t added;
 
-    added = tl_put_header(log.bytes, sizeof log.bytes, at[0], 604800000, 3, 8, 1, 3, at, refusal);
+    added = tl_put_header(log.bytes, sizeof log.bytes, at[0], 604800000, 3, 8, 3, 3, at, refusal);
     for (int i = 0; i < 8; i++)
         added &= tl_put_state(log.bytes, sizeof log.bytes, at[0], states[i][0], states[i][1], states[i][2], at, refusal);
-    added &= tl_put_standard(log.bytes, sizeof log.bytes, at[0], 0, 0, 1800000, at, refusal);
+    for (uint64_t m = 0; m < 3; m++)
+        added &= tl_put_standard(log.bytes, sizeof log.bytes, at[0], m, 0, 0, 1800000, at, refusal);
     for (int i = 0; i < 3; i++)
         added &= tl_put_unit(log.bytes, sizeof log.bytes, at[0], units[i][0], 0, units[i][1], units[i][2], units[i][3], at, refusal);
     return all_added(log, added, at[0]);
@@ -47,9 +48,25 @@ struct written write_r1_3(void)
     added &= tl_put_state(log.bytes, sizeof log.bytes, at[0], 0, 0, 0, at, refusal);
     added &= tl_put_state(log.bytes, sizeof log.bytes, at[0], 0, 7, 558000000, at, refusal);
     for (uint64_t i = 0; i < 4; i++)
-        added &= tl_put_standard(log.bytes, sizeof log.bytes, at[0], i, 0, theoretical[i], at, refusal);
+        added &= tl_put_standard(log.bytes, sizeof log.bytes, at[0], 0, i, 0, theoretical[i], at, refusal);
     for (uint64_t i = 0; i < 4; i++)
         added &= tl_put_unit(log.bytes, sizeof log.bytes, at[0], 0, i, units[i][0], units[i][1], units[i][2], at, refusal);
+    return all_added(log, added, at[0]);
+}
+
+struct written write_two_modules(const uint64_t standards[][4], size_t count)
+{
+    struct written log = {{0}, 0};
+    uint64_t at[1] = {0}, refusal[3];
+    uint32_t added;
+
+    added = tl_put_header(log.bytes, sizeof log.bytes, at[0], 10, 2, 2, count, 2, at, refusal);
+    for (uint64_t m = 0; m < 2; m++)
+        added &= tl_put_state(log.bytes, sizeof log.bytes, at[0], m, 0, 0, at, refusal);
+    for (size_t i = 0; i < count; i++)
+        added &= tl_put_standard(log.bytes, sizeof log.bytes, at[0], standards[i][0], standards[i][1], standards[i][2], standards[i][3], at, refusal);
+    for (uint64_t m = 0; m < 2; m++)
+        added &= tl_put_unit(log.bytes, sizeof log.bytes, at[0], m, 4, 5, 2, 1, at, refusal);
     return all_added(log, added, at[0]);
 }
 

@@ -1,5 +1,6 @@
-/* Tests every function of tool_log.h: the reading ones on case W, a log with no uptime, and bytes that are refused; the supplemental figures on R1-3
- * and on benchmarks with every fault; the writing ones on every width, on every position that matters, and on bytes worked out by hand. */
+/* Tests every function of tool_log.h: the reading ones on case W, a log with no uptime, standards of two modules, and bytes that are refused; the
+ * supplemental figures on R1-3 and on benchmarks with every fault; the writing ones on every width, on every position that matters, and on bytes
+ * worked out by hand. */
 #include <inttypes.h>
 #include <math.h>
 #include <stdio.h>
@@ -29,8 +30,8 @@ static const char report[] = "module avail oper rate qual oee\n"
                              "tool 0.9702 0.7730 0.9524 0.9569 0.6835\n";
 
 /* Case W, a record on each line: the bytes of samples/case-w.log, which were packed apart from the library. */
-static const uint8_t week[100] = {
-    0x04, 0x81, 0x90, 0x80, 0x00, 0xc0, 0x08, 0x00, 0x20, 0x03,
+static const uint8_t week[121] = {
+    0x04, 0x81, 0x90, 0x80, 0x00, 0xc0, 0x08, 0x00, 0x60, 0x03,
     0x00, 0x00, 0x00, 0x00, 0x00, 0x00,
     0x04, 0x00, 0x00, 0x00, 0x00, 0x00,
     0x08, 0x00, 0x00, 0x00, 0x00, 0x00,
@@ -39,7 +40,9 @@ static const uint8_t week[100] = {
     0x00, 0xe0, 0x80, 0xbe, 0xfc, 0x00,
     0x06, 0x40, 0x87, 0x9c, 0xcc, 0x00,
     0x02, 0x40, 0x8b, 0xe7, 0x6e, 0x00,
-    0x00, 0x00, 0x00, 0x00, 0x00, 0x00, 0x1b, 0x77, 0x40,
+    0x00, 0x00, 0x00, 0x00, 0x00, 0x00, 0x00, 0x6d, 0xdd, 0x00,
+    0x04, 0x00, 0x00, 0x00, 0x00, 0x00, 0x00, 0x6d, 0xdd, 0x00,
+    0x08, 0x00, 0x00, 0x00, 0x00, 0x00, 0x00, 0x6d, 0xdd, 0x00,
     0x00, 0x00, 0x00, 0x06, 0xdd, 0xd0, 0x00, 0x23, 0x00, 0x20, 0xa0,
     0x04, 0x00, 0x00, 0x06, 0xdd, 0xd0, 0x00, 0x24, 0x40, 0x22, 0xc0,
     0x08, 0x00, 0x00, 0x06, 0xdd, 0xd0, 0x00, 0x12, 0xc0, 0x12, 0xc0,
@@ -231,6 +234,56 @@ static void damaged(void)
     refused(log, length, TL_SEQUENCE, 1, 1);
 }
 
+/* One recipe and start, and each module by its own time: 2 ms a unit at module 0, 3 ms at module 1. */
+static void own_times(void)
+{
+    const uint64_t standards[2][4] = {{0, 4, 0, 2}, {1, 4, 0, 3}};
+    const uint64_t of_0[5] = {10, 10, 10, 4, 2}, of_1[5] = {10, 10, 10, 6, 3}, of_tool[5] = {20, 20, 20, 10, 5};
+    const struct written log = write_two_modules(standards, 2);
+    uint64_t quantities[5], why[3];
+
+    CHECK(tl_module_quantities(log.bytes, log.length, 0, quantities, why) == 1 && !memcmp(quantities, of_0, sizeof quantities));
+    CHECK(tl_module_quantities(log.bytes, log.length, 1, quantities, why) == 1 && !memcmp(quantities, of_1, sizeof quantities));
+    CHECK(tl_tool_quantities(log.bytes, log.length, quantities, why) == 1 && !memcmp(quantities, of_tool, sizeof quantities));
+}
+
+static void refused_standards(const uint64_t standards[][4], size_t count, uint64_t number, uint64_t list, uint64_t place)
+{
+    const struct written log = write_two_modules(standards, count);
+    refused(log.bytes, log.length, number, list, place);
+}
+
+/* Each of the two spare bits of the standard at a place. */
+static void spare_bits(const uint64_t standards[][4], size_t count, size_t place)
+{
+    for (unsigned bit = 0; bit < 2; bit++) {
+        struct written log = write_two_modules(standards, count);
+        log.bytes[10 + 2 * 6 + 10 * place + 9] |= (uint8_t)(1u << bit);
+        refused(log.bytes, log.length, TL_SPARE, 2, place);
+    }
+}
+
+/* Standards refused for a spare bit, for their module or for their sequence by module, and units whose recipe has one in force at the other module
+ * alone. The last of `stray` also starts at the period's end. */
+static void standards_of_modules(void)
+{
+    const uint64_t both[2][4] = {{0, 4, 0, 2}, {1, 4, 0, 3}};
+    const uint64_t stray[3][4] = {{0, 4, 0, 2}, {1, 4, 0, 3}, {2, 4, 10, 1}}, farthest[3][4] = {{0, 4, 0, 2}, {1, 4, 0, 3}, {63, 4, 0, 1}};
+    const uint64_t again[3][4] = {{0, 4, 0, 2}, {1, 4, 0, 3}, {0, 4, 0, 1}}, lower[2][4] = {{1, 4, 0, 3}, {0, 5, 0, 2}};
+    const uint64_t of_0[2][4] = {{0, 4, 0, 2}, {1, 5, 0, 3}}, of_1[2][4] = {{0, 5, 0, 2}, {1, 4, 0, 3}}, later[2][4] = {{0, 4, 0, 2}, {1, 4, 6, 3}};
+
+    spare_bits(both, 2, 0);
+    spare_bits(both, 2, 1);
+    spare_bits(stray, 3, 2);
+    refused_standards(stray, 3, TL_STRAY_MODULE, 2, 2);
+    refused_standards(farthest, 3, TL_STRAY_MODULE, 2, 2);
+    refused_standards(again, 3, TL_TWICE, 2, 2);
+    refused_standards(lower, 2, TL_UNSORTED, 2, 1);
+    refused_standards(of_0, 2, TL_NO_STANDARD, 3, 1);
+    refused_standards(of_1, 2, TL_NO_STANDARD, 3, 0);
+    refused_standards(later, 2, TL_NO_STANDARD, 3, 1);
+}
+
 static uint64_t field(const uint8_t *bytes, unsigned from, unsigned width)
 {
     uint64_t value = 0;
@@ -264,7 +317,7 @@ static void random_bytes(void)
                 number = TL_BAD_MODULES;
             else if (states > 6000 || standards > 512 || units > 2000)
                 number = TL_BAD_COUNTS;
-            else if (length != 10 + 6 * states + 9 * standards + 11 * units)
+            else if (length != 10 + 6 * states + 10 * standards + 11 * units)
                 number = TL_BAD_LENGTH;
         }
         if (number)
@@ -376,19 +429,26 @@ static void first_fault(void)
     not_benchmarks(&log, changed, 56, TL_SPARE, 2);
 }
 
-/* Case W: 689 effective units of three modules, judged by one standard, of 1,814,400,000 ms. 689 x 90,720 of them are 344.5 ten-thousandths. */
+/* Case W: 261, 278 and 150 effective units, each module's judged by its own standard, of 1,814,400,000 ms. 261 x 1,800,000 + 278 x 900,000 +
+ * 150 x 450,000 of them are 4,340.3 ten-thousandths, 689 x 90,720 are 344.5. */
 static void of_all_modules(void)
 {
     const struct written log = write_case_w(3600000);
-    uint8_t benchmark[14] = {0};
+    const uint64_t reference[3] = {1800000, 900000, 450000}, effective[3] = {261, 278, 150};
+    uint8_t benchmarks[42] = {0};
 
-    set(benchmark, 0, 0, 1800000);
-    set(benchmark, 0, 1, 90720);
-    set(benchmark, 0, 2, 90719);
-    set(benchmark, 0, 3, 689);
-    figures_are(&log, benchmark, sizeof benchmark, 6835, 345, 344, 6835);
-    set(benchmark, 0, 3, 690);
-    not_benchmarks(&log, benchmark, sizeof benchmark, TL_OVER_COUNTED, 0);
+    for (unsigned m = 0; m < 3; m++) {
+        set(benchmarks, m, 0, reference[m]);
+        set(benchmarks, m, 1, 90720);
+        set(benchmarks, m, 2, 90719);
+        set(benchmarks, m, 3, effective[m]);
+    }
+    figures_are(&log, benchmarks, sizeof benchmarks, 4340, 345, 344, 6835);
+    for (unsigned m = 0; m < 3; m++) {
+        set(benchmarks, m, 3, effective[m] + 1);
+        not_benchmarks(&log, benchmarks, sizeof benchmarks, TL_OVER_COUNTED, m);
+        set(benchmarks, m, 3, effective[m]);
+    }
 }
 
 static void no_standards(void)
@@ -408,7 +468,7 @@ static const struct {
 } kinds[4] = {
     {10, 5, {35, 7, 14, 11, 13}},
     {6, 3, {6, 5, 35}},
-    {9, 3, {10, 35, 27}},
+    {10, 4, {6, 10, 35, 27}},
     {11, 5, {6, 10, 35, 16, 16}},
 };
 
@@ -420,7 +480,7 @@ static uint32_t put(int list, uint8_t *buf, size_t buf_len, size_t at, const uin
     case 1:
         return tl_put_state(buf, buf_len, at, v[0], v[1], v[2], next, why);
     case 2:
-        return tl_put_standard(buf, buf_len, at, v[0], v[1], v[2], next, why);
+        return tl_put_standard(buf, buf_len, at, v[0], v[1], v[2], v[3], next, why);
     default:
         return tl_put_unit(buf, buf_len, at, v[0], v[1], v[2], v[3], v[4], next, why);
     }
@@ -501,9 +561,9 @@ static void worked_out(void)
         {1, {1, 2, 3}, {0x04, 0x40, 0x00, 0x00, 0x00, 0x0c}},
         {1, {0x3f, 0, ones_35}, {0xfc, 0x1f, 0xff, 0xff, 0xff, 0xfc}},
         {1, {0, 0x1f, 0}, {0x03, 0xe0, 0x00, 0x00, 0x00, 0x00}},
-        {2, {1, 2, 3}, {0x00, 0x40, 0x00, 0x00, 0x00, 0x10, 0x00, 0x00, 0x03}},
-        {2, {0x3ff, 0, ones_27}, {0xff, 0xc0, 0x00, 0x00, 0x00, 0x07, 0xff, 0xff, 0xff}},
-        {2, {0, ones_35, 0}, {0x00, 0x3f, 0xff, 0xff, 0xff, 0xf8, 0x00, 0x00, 0x00}},
+        {2, {1, 2, 3, 4}, {0x04, 0x02, 0x00, 0x00, 0x00, 0x00, 0x60, 0x00, 0x00, 0x10}},
+        {2, {0x3f, 0, ones_35, 0}, {0xfc, 0x00, 0xff, 0xff, 0xff, 0xff, 0xe0, 0x00, 0x00, 0x00}},
+        {2, {0, 0x3ff, 0, ones_27}, {0x03, 0xff, 0x00, 0x00, 0x00, 0x00, 0x1f, 0xff, 0xff, 0xfc}},
         {3, {1, 2, 3, 4, 5}, {0x04, 0x02, 0x00, 0x00, 0x00, 0x00, 0x60, 0x00, 0x80, 0x00, 0xa0}},
         {3, {0x3f, 0, ones_35, 0, 0xffff}, {0xfc, 0x00, 0xff, 0xff, 0xff, 0xff, 0xe0, 0x00, 0x1f, 0xff, 0xe0}},
         {3, {0, 0x3ff, 0, 0xffff, 0}, {0x03, 0xff, 0x00, 0x00, 0x00, 0x00, 0x1f, 0xff, 0xe0, 0x00, 0x00}},
@@ -584,6 +644,8 @@ static void written(void)
     CHECK(tl_finish_log(buf, sizeof buf, at[0], why) == 0 && is(why, TL_BAD_LENGTH, 0, 0));
     CHECK(tl_put_unit(buf, sizeof buf, at[0], 0, 0, 0, 0, 0, at, why) == 0 && is(why, TL_SHORT_BUFFER, 0, 0));
     CHECK(tl_put_state(buf, sizeof buf, at[0], 64, 22, 0, at, why) == 0 && is(why, TL_TOO_WIDE, 1, 0));
+    CHECK(tl_put_standard(buf, sizeof buf, at[0], 64, 0, 0, 1, at, why) == 0 && is(why, TL_TOO_WIDE, 2, 0));
+    CHECK(tl_put_standard(buf, sizeof buf, at[0], 63, 0, 0, 1, at, why) == 0 && is(why, TL_SHORT_BUFFER, 0, 0));
     CHECK(tl_put_state(buf, sizeof buf, at[0], 0, 22, 0, at, why) == 1 && at[0] == 16);
     CHECK(tl_put_state(buf, sizeof buf, at[0], 0, 22, 1, at, why) == 0 && is(why, TL_SHORT_BUFFER, 0, 0) && at[0] == 16);
     CHECK(tl_finish_log(buf, sizeof buf, at[0], why) == 1 && is(why, 0, 0, 0));
@@ -653,6 +715,8 @@ int main(void)
     written();
     case_w();
     no_uptime();
+    own_times();
+    standards_of_modules();
     benchmarks_of_r1_3();
     first_fault();
     of_all_modules();

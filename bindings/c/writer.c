@@ -28,13 +28,13 @@ static const struct {
     {0, NO_PRODUCT, 6 * HOUR + 36 * MINUTE},
 };
 
-/* Recipe 3 is faster from hour 4 on. */
+/* Recipe 3 takes 2 minutes at module 0, from hour 4 on 1.5; at module 1 it takes 3. */
 static const struct {
-    uint64_t recipe, start, theoretical;
+    uint64_t module, recipe, start, theoretical;
 } standards[] = {
-    {3, 0, 2 * MINUTE},
-    {3, 4 * HOUR, 3 * MINUTE / 2},
-    {7, 0, 3 * MINUTE},
+    {0, 3, 0, 2 * MINUTE},
+    {0, 3, 4 * HOUR, 3 * MINUTE / 2},
+    {1, 3, 0, 3 * MINUTE},
 };
 
 /*
@@ -48,7 +48,7 @@ static const struct {
     uint64_t module, recipe, time, actual, effective;
 } units[] = {
     {0, 3, 3 * HOUR, 90, 81},
-    {1, 7, 5 * HOUR, 63, 63},
+    {1, 3, 5 * HOUR, 63, 63},
     {0, 3, 6 * HOUR + 36 * MINUTE, 90, 81},
 };
 
@@ -63,7 +63,8 @@ static uint32_t write_log(uint8_t *buf, size_t buf_len, uint64_t period, uint64_
             return 0;
     }
     for (size_t i = 0; i < COUNT(standards); i++) {
-        if (!tl_put_standard(buf, buf_len, at[0], standards[i].recipe, standards[i].start, standards[i].theoretical, at, refusal))
+        if (!tl_put_standard(buf, buf_len, at[0], standards[i].module, standards[i].recipe, standards[i].start, standards[i].theoretical, at,
+                             refusal))
             return 0;
     }
     for (size_t i = 0; i < COUNT(units); i++) {
