@@ -429,8 +429,8 @@ static void first_fault(void)
     not_benchmarks(&log, changed, 56, TL_SPARE, 2);
 }
 
-/* Case W: 261, 278 and 150 effective units, each module's judged by its own standard, of 1,814,400,000 ms. 261 x 1,800,000 + 278 x 900,000 +
- * 150 x 450,000 of them are 4,340.3 ten-thousandths, 689 x 90,720 are 344.5. */
+/* Case W: each module's effective units are judged by its own standard. Of 1,814,400,000 ms, 261 x 1,800,000 + 278 x 900,000 + 150 x 450,000 are
+ * 4,340.3 ten-thousandths, 689 x 90,720 are 344.5. */
 static void of_all_modules(void)
 {
     const struct written log = write_case_w(3600000);

@@ -1,5 +1,5 @@
-"""Tests tool_log.py on logs packed here: case W, a log with no uptime, and bytes that are refused; the supplemental figures on R1-3 and on benchmarks
-with every fault; and its writer on what is packed here too."""
+"""Tests tool_log.py on logs packed here: case W, a log with no uptime, standards of two modules, and bytes that are refused; the supplemental figures
+on R1-3 and on benchmarks with every fault; and its writer on what is packed here too."""
 
 import enum
 import fractions
@@ -36,8 +36,8 @@ def state(module, code, time):
     return packed((module, 6), (code, 5), (time, 35), (0, 2))
 
 
-def standard(recipe, start, theoretical):
-    return packed((recipe, 10), (start, 35), (theoretical, 27))
+def standard(module, recipe, start, theoretical, spare=0):
+    return packed((module, 6), (recipe, 10), (start, 35), (theoretical, 27), (spare, 2))
 
 
 def unit(module, recipe, time, actual, effective):
@@ -45,7 +45,7 @@ def unit(module, recipe, time, actual, effective):
 
 
 W_STATES = ((0, 0, 0), (1, 0, 0), (2, 0, 0), (2, 7, 288000000), (1, 7, 532800000), (0, 7, 540000000), (1, 18, 568800000), (0, 18, 586800000))
-W_STANDARDS = ((0, 0, 1800000),)
+W_STANDARDS = ((0, 0, 0, 1800000), (1, 0, 0, 1800000), (2, 0, 0, 1800000))
 
 
 def w_units(late=3600000):
@@ -54,7 +54,7 @@ def w_units(late=3600000):
 
 def case_w(late=3600000):
     records = [state(*s) for s in W_STATES] + [standard(*s) for s in W_STANDARDS] + [unit(*u) for u in w_units(late)]
-    return header(604800000, 3, 8, 1, 3) + b"".join(records)
+    return header(604800000, 3, 8, 3, 3) + b"".join(records)
 
 
 def idle():
@@ -70,9 +70,15 @@ BENCHMARKS = ((119988, 90000, 36000, 1250), (119988, 72000, 18000, 550), (119988
 def r1_3():
     units = ((187200000, 1500), (280800000, 600), (432000000, 800), (554400000, 500))
     records = [state(0, 0, 0), state(0, 7, 558000000)]
-    records += [standard(recipe, 0, theoretical) for recipe, theoretical in enumerate(THEORETICAL)]
+    records += [standard(0, recipe, 0, theoretical) for recipe, theoretical in enumerate(THEORETICAL)]
     records += [unit(0, recipe, time, actual, EFFECTIVE[recipe]) for recipe, (time, actual) in enumerate(units)]
     return header(604800000, 1, 2, 4, 4) + b"".join(records)
+
+
+def two_modules(*standards):
+    """Ten productive milliseconds of two modules. At time 5 each reports two units of recipe 4, one of them effective."""
+    records = [state(0, 0, 0), state(1, 0, 0)] + [standard(*s) for s in standards] + [unit(0, 4, 5, 2, 1), unit(1, 4, 5, 2, 1)]
+    return header(10, 2, 2, len(standards), 2) + b"".join(records)
 
 
 def benchmark(*values, spare=0):
@@ -119,7 +125,7 @@ class Calls(Case):
 
     def test_report(self):
         log = case_w()
-        self.assertEqual(len(log), 100)
+        self.assertEqual(len(log), 121)
         self.assertEqual(tool_log.report(log), REPORT)
         self.assertEqual(tool_log.report(bytearray(log)), REPORT)
         buffer = bytearray(b"\xa5" * 200)
@@ -171,6 +177,28 @@ class Calls(Case):
         self.turned_back(case_w(late=3599999), 19, 3, 2)
         self.turned_back(log[:-1] + b"\x01", 6, 3, 2)
 
+    def test_own_times(self):
+        # One recipe and start: 2 ms a unit at module 0, 3 ms at module 1.
+        log = two_modules((0, 4, 0, 2), (1, 4, 0, 3))
+        self.assertEqual(tool_log.module_quantities(log, 0), Quantities(10, 10, 10, 4, 2))
+        self.assertEqual(tool_log.module_quantities(log, 1), Quantities(10, 10, 10, 6, 3))
+        self.assertEqual(tool_log.tool_quantities(log), Quantities(20, 20, 20, 10, 5))
+
+    def test_standards_of_modules(self):
+        own, other = (0, 4, 0, 2), (1, 4, 0, 3)
+        for spare in 1, 2, 3:
+            self.turned_back(two_modules((*own, spare), other), 6, 2, 0)
+            self.turned_back(two_modules(own, (*other, spare)), 6, 2, 1)
+            self.turned_back(two_modules(own, other, (2, 4, 10, 0, spare)), 6, 2, 2)
+        for module in 2, 63:
+            self.turned_back(two_modules(own, other, (module, 4, 10, 0)), 7, 2, 2)
+        self.turned_back(two_modules(own, other, own), 13, 2, 2)
+        self.turned_back(two_modules(other, (0, 5, 0, 2)), 19, 2, 1)
+        # Of each recipe and time only the other module has a standard in force.
+        self.turned_back(two_modules(own, (1, 5, 0, 3)), 15, 3, 1)
+        self.turned_back(two_modules((0, 5, 0, 2), other), 15, 3, 0)
+        self.turned_back(two_modules(own, (1, 4, 6, 3)), 15, 3, 1)
+
     def test_words(self):
         refused = self.refused(9, 3, 2, tool_log.report, case_w(late=604800000))
         self.assertEqual(str(refused), "refused: 9 outside: time or start at or past the period (list units, place 2)")
@@ -198,7 +226,7 @@ class Calls(Case):
                 self.turned_back(log, 3)
             elif states > 6000 or standards > 512 or units > 2000:
                 self.turned_back(log, 4)
-            elif len(log) != 10 + 6 * states + 9 * standards + 11 * units:
+            elif len(log) != 10 + 6 * states + 10 * standards + 11 * units:
                 self.turned_back(log, 5)
             else:
                 self.assertRaises(Refused, tool_log.examine, log, 0)
@@ -226,21 +254,29 @@ class Supplements(Case):
         rows = [(theoretical, 1, 1, 0) for theoretical in THEORETICAL]
         self.assertEqual(supplemental(r1_3(), benchmarks(rows)), Supplemental(8690, 0, 0, 0))
 
+    def over_counted(self, rows, judged, log):
+        """Each benchmark with one unit more than its standard judges."""
+        for place, units in enumerate(judged):
+            more = [*rows[:place], (*rows[place][:3], units + 1), *rows[place + 1 :]]
+            self.turned_back(21, place, benchmarks(more), log)
+
     def test_all_modules(self):
-        # 689 effective units judged by one standard, of 1,814,400,000 ms: 689 x 90,720 are 344.5 ten-thousandths.
-        self.assertEqual(supplemental(case_w(), benchmark(1800000, 90720, 90719, 689)), Supplemental(6835, 345, 344, 6835))
-        self.turned_back(21, 0, benchmark(1800000, 90720, 90719, 690), case_w())
+        # Each module's effective units are judged by its own standard. Of 1,814,400,000 ms, 261 x 1,800,000 + 278 x 900,000 + 150 x 450,000 are
+        # 4,340.3 ten-thousandths, 689 x 90,720 are 344.5.
+        rows = [(1800000, 90720, 90719, 261), (900000, 90720, 90719, 278), (450000, 90720, 90719, 150)]
+        self.assertEqual(supplemental(case_w(), benchmarks(rows)), Supplemental(4340, 345, 344, 6835))
+        self.over_counted(rows, (261, 278, 150), case_w())
 
     def test_revisions(self):
-        # The standards judge 3 effective units; 2 of each module and 5 from the revision's start on; and 6. With 20,000 ms a figure is half its sum.
-        log = write_log(10000, 2, [(0, 0, 0), (1, 0, 0)], [(3, 0, 1000), (3, 4000, 500), (7, 0, 250)],
+        # The standards judge 3 effective units of module 0, and 2 and 5 from the revision's start on; 2 and 6 of module 1. With 20,000 ms a figure is
+        # half its sum.
+        log = write_log(10000, 2, [(0, 0, 0), (1, 0, 0)], [(0, 3, 0, 1000), (0, 3, 4000, 500), (1, 3, 0, 800), (1, 7, 0, 250)],
                         [(0, 3, 3999, 3, 3), (0, 3, 4000, 2, 2), (1, 3, 4000, 2, 2), (0, 3, 9000, 5, 5), (1, 7, 9000, 7, 6)])
-        rows = [(1000, 500, 10, 2), (400, 300, 20, 9), (200, 1, 30, 0)]
-        sums = (3 * 1000 + 9 * 400 + 6 * 200, 3 * 500 + 9 * 300 + 6 * 1, 3 * 10 + 9 * 20 + 6 * 30, 2 * 1000 + 9 * 500)
+        rows = [(1000, 500, 10, 2), (400, 300, 20, 7), (700, 50, 40, 1), (200, 1, 30, 0)]
+        sums = (3 * 1000 + 7 * 400 + 2 * 700 + 6 * 200, 3 * 500 + 7 * 300 + 2 * 50 + 6 * 1, 3 * 10 + 7 * 20 + 2 * 40 + 6 * 30,
+                2 * 1000 + 7 * 500 + 1 * 800)
         self.assertEqual(supplemental(log, benchmarks(rows)), Supplemental(*(total // 2 for total in sums)))
-        for place, judged in enumerate((3, 9, 6)):
-            more = [*rows[:place], (*rows[place][:3], judged + 1), *rows[place + 1 :]]
-            self.turned_back(21, place, benchmarks(more), log)
+        self.over_counted(rows, (3, 7, 2, 6), log)
 
     def test_no_standards(self):
         self.assertEqual(supplemental(idle(), b""), Supplemental(0, 0, 0, 0))
@@ -280,7 +316,7 @@ class Supplements(Case):
         refused = self.turned_back(5, 0, b"")
         self.assertEqual(
             str(refused),
-            "refused: 5 length: bytes other than 10 + 6 states + 9 standards + 11 units; benchmarks: 14 for each standard (the benchmarks)",
+            "refused: 5 length: bytes other than 10 + 6 states + 10 standards + 11 units; benchmarks: 14 for each standard (the benchmarks)",
         )
         refused = self.turned_back(12, 0, bytes(56))
         self.assertEqual(str(refused), "refused: 12 no time: theoretical time 0, or a time of a benchmark 0 (benchmark 0)")
@@ -311,7 +347,7 @@ class Supplements(Case):
 KINDS = (
     ("header", (35, 7, 14, 11, 13), header),
     ("state", (6, 5, 35), state),
-    ("standard", (10, 35, 27), standard),
+    ("standard", (6, 10, 35, 27), standard),
     ("unit", (6, 10, 35, 16, 16), unit),
 )
 
@@ -329,7 +365,7 @@ def decoded(log):
 
     period, modules, *counts = fields(0, KINDS[0][1])
     lists, at = [], 80
-    for count, size, (_, widths, _) in zip(counts, (48, 72, 88), KINDS[1:]):
+    for count, size, (_, widths, _) in zip(counts, (48, 80, 88), KINDS[1:]):
         lists.append([fields(at + size * i, widths) for i in range(count)])
         at += size * count
     return period, modules, *lists
@@ -360,10 +396,21 @@ class Writing(Case):
         writer.state(module=0, code=22, time=0)
         self.assertEqual(writer.finish(), idle())
         self.assertEqual(writer.finish(), idle())
-        writer.standard(recipe=1, start=2, theoretical=3)
+        writer.standard(module=1, recipe=2, start=3, theoretical=4)
         self.refused(5, 0, 0, writer.finish)
         writer.unit(module=1, recipe=2, time=3, actual=4, effective=5)
-        self.assertEqual(writer.written(), idle() + standard(1, 2, 3) + unit(1, 2, 3, 4, 5))
+        self.assertEqual(writer.written(), idle() + standard(1, 2, 3, 4) + unit(1, 2, 3, 4, 5))
+
+    def test_standard_by_hand(self):
+        # 6 bits of the module, 10 of the recipe, 35 of the start, 27 of the theoretical time, 2 spare.
+        for values, due in (
+            ((1, 2, 3, 4), "04 02 00 00 00 00 60 00 00 10"),
+            ((63, 0, 2**35 - 1, 0), "fc 00 ff ff ff ff e0 00 00 00"),
+            ((0, 1023, 0, 2**27 - 1), "03 ff 00 00 00 00 1f ff ff fc"),
+        ):
+            writer = Writer()
+            writer.standard(*values)
+            self.assertEqual(writer.written(), bytes.fromhex(due))
 
     def test_random_values(self):
         source = random.Random(20261116)
@@ -409,20 +456,21 @@ class Writing(Case):
         self.assertEqual(writer.finish(), idle())
         # the size that is lent by default
         writer = Writer()
-        for _ in range(tool_log.LONGEST_LOG // 11):
+        for _ in range(5738):
             writer.unit(0, 0, 0, 0, 0)
-        self.not_added(writer, 18, 0, "unit", 0, 0, 0, 0, 0)
-        self.assertEqual(len(writer.written()), 62612)
+        writer.state(0, 0, 0)
+        self.not_added(writer, 18, 0, "standard", 0, 0, 0, 0)
+        self.assertEqual(len(writer.written()), 63124)
         writer.state(0, 0, 0)
         self.assertEqual(len(writer.written()), tool_log.LONGEST_LOG)
 
     def test_up_to_the_first_refused(self):
-        writer = Writer(10 + 6 + 9)
-        self.refused(18, 0, 0, writer.records, 10, 1, [(0, 0, 0), (0, 7, 1)], [(3, 0, 1)], [(0, 3, 0, 1, 1)])
-        # Three bytes are left behind two state records: no room for the standard.
+        writer = Writer(10 + 6 + 10)
+        self.refused(18, 0, 0, writer.records, 10, 1, [(0, 0, 0), (0, 7, 1)], [(0, 3, 0, 1)], [(0, 3, 0, 1, 1)])
+        # Four bytes are left behind two state records: no room for the standard.
         self.assertEqual(len(writer.written()), 10 + 6 + 6)
         writer = Writer()
-        self.refused(22, 1, 0, writer.records, 10, 1, [(0, 0, 0), (64, 7, 1)], [(3, 0, 1)], [])
+        self.refused(22, 1, 0, writer.records, 10, 1, [(0, 0, 0), (64, 7, 1)], [(0, 3, 0, 1)], [])
         self.assertEqual(len(writer.written()), 10 + 6)
 
     def test_no_int(self):
@@ -442,6 +490,7 @@ class Writing(Case):
         with self.assertRaisesRegex(TypeError, "^time is an int, not float 1.5$"):
             Writer().state(0, 0, 1.5)
         self.assertRaises(TypeError, write_log, 10, 1, [(0, 0)], [], [])
+        self.assertRaises(TypeError, write_log, 10, 1, [(0, 0, 0)], [(0, 0, 1)], [])
         self.assertRaises(TypeError, Writer, 1.0)
         self.assertRaises(ValueError, Writer, -1)
 
@@ -459,7 +508,8 @@ class Writing(Case):
         self.refused(4, 0, 0, write_log, 20000, 1, [(0, 0, time) for time in range(16383)], [], [])
         self.refused(22, 0, 0, write_log, 20000, 1, [(0, 0, time) for time in range(16384)], [], [])
         self.refused(22, 1, 0, write_log, 10, 1, [(64, 0, 0)], [], [])
-        self.refused(22, 2, 0, write_log, 10, 1, [], [(0, 0, 2**27)], [])
+        self.refused(22, 2, 0, write_log, 10, 1, [], [(0, 0, 0, 2**27)], [])
+        self.refused(22, 2, 0, write_log, 10, 1, [], [(64, 0, 0, 1)], [])
         self.refused(22, 3, 0, write_log, 10, 1, [], [], [(0, 0, 0, 0, -1)])
 
     def test_words(self):

@@ -13,7 +13,7 @@ from dataclasses import dataclass
 from typing import Optional
 
 LONGEST_REPORT = 2494
-LONGEST_LOG = 62618
+LONGEST_LOG = 63130
 LONGEST_BENCHMARKS = 7168
 
 # Which list a refusal's record or benchmark stands in.
@@ -25,7 +25,7 @@ REFUSALS = {
     2: ("period", "0 or over 366 days (31,622,400,000 ms)"),
     3: ("modules", "0 or over 64"),
     4: ("counts", "over 6,000 state records, 512 standards or 2,000 unit records"),
-    5: ("length", "bytes other than 10 + 6 states + 9 standards + 11 units; benchmarks: 14 for each standard"),
+    5: ("length", "bytes other than 10 + 6 states + 10 standards + 11 units; benchmarks: 14 for each standard"),
     6: ("spare", "a spare bit set"),
     7: ("stray module", "module at or above the module count"),
     8: ("stray code", "sub-state code above 23"),
@@ -33,13 +33,13 @@ REFUSALS = {
     10: ("sequence", "time, then module, not above the record before, or not later than its own module's last"),
     11: ("no opening", "a module whose first record is not at time 0, or that has none"),
     12: ("no time", "theoretical time 0, or a time of a benchmark 0"),
-    13: ("twice", "recipe and start both equal to an earlier standard's"),
+    13: ("twice", "module, recipe and start all equal to an earlier standard's"),
     14: ("over-good", "effective units above actual units"),
     15: ("no standard", "none in force for a unit record"),
     16: ("too fast", "a module's actual theoretical time above its production time"),
     17: ("too great", "a tool sum above 9,007,199,254,740,991 ms"),
     18: ("short buffer", "report longer than the buffer, or a record that does not fit at its position"),
-    19: ("unsorted", "out of rising sequence: standards by recipe and start, units by time, module and recipe"),
+    19: ("unsorted", "out of rising sequence: standards by module, recipe and start, units by time, module and recipe"),
     20: ("above standard", "a time of a benchmark above its standard's theoretical time"),
     21: ("over-counted", "total effective units of a benchmark above the effective units judged by its standard"),
     22: ("too wide", "a value does not fit its field"),
@@ -143,7 +143,7 @@ _tool_figures = _function("tl_tool_figures", _u32, _P(_Figures), _P(_Based), _P(
 _supplemental = _function("tl_supplemental", _u32, ctypes.c_char_p, _size, _P(_Supplemental), _P(_Refusal))
 _put_header = _function("tl_put_header", _u32, _size, _u64, _u64, _u64, _u64, _u64, _P(_Next), _P(_Refusal))
 _put_state = _function("tl_put_state", _u32, _size, _u64, _u64, _u64, _P(_Next), _P(_Refusal))
-_put_standard = _function("tl_put_standard", _u32, _size, _u64, _u64, _u64, _P(_Next), _P(_Refusal))
+_put_standard = _function("tl_put_standard", _u32, _size, _u64, _u64, _u64, _u64, _P(_Next), _P(_Refusal))
 _put_unit = _function("tl_put_unit", _u32, _size, _u64, _u64, _u64, _u64, _u64, _P(_Next), _P(_Refusal))
 _finish_log = _function("tl_finish_log", _u32, _size, _P(_Refusal))
 
@@ -310,17 +310,17 @@ class Writer:
         """From this time on the module has this sub-state code."""
         self._put(_put_state, module=module, code=code, time=time)
 
-    def standard(self, recipe: int, start: int, theoretical: int) -> None:
-        """From this start on a unit of the recipe takes this theoretical time, in ms."""
-        self._put(_put_standard, recipe=recipe, start=start, theoretical=theoretical)
+    def standard(self, module: int, recipe: int, start: int, theoretical: int) -> None:
+        """From this start on a unit of the recipe takes this theoretical time, in ms, at this module. It says nothing of other modules."""
+        self._put(_put_standard, module=module, recipe=recipe, start=start, theoretical=theoretical)
 
     def unit(self, module: int, recipe: int, time: int, actual: int, effective: int) -> None:
-        """Units of the recipe that the module made, judged by the standard in force at this time, and how many of them are effective."""
+        """Units of the recipe that the module made, judged by its standard in force at this time, and how many of them are effective."""
         self._put(_put_unit, module=module, recipe=recipe, time=time, actual=actual, effective=effective)
 
     def records(self, period: int, modules: int, states, standards, units) -> None:
         """A header that counts these records, then each of them, up to the first that is refused. They are lists of what the methods above take:
-        states (module, code, time), standards (recipe, start, theoretical) and units (module, recipe, time, actual, effective)."""
+        states (module, code, time), standards (module, recipe, start, theoretical) and units (module, recipe, time, actual, effective)."""
         self.header(period, modules, len(states), len(standards), len(units))
         for add, records in (self.state, states), (self.standard, standards), (self.unit, units):
             for record in records:
@@ -341,6 +341,6 @@ class Writer:
 def write_log(period: int, modules: int, states, standards, units) -> bytes:
     """A finished log of its records, or Refused. The records are those that Writer.records takes."""
     states, standards, units = list(states), list(standards), list(units)
-    writer = Writer(10 + 6 * len(states) + 9 * len(standards) + 11 * len(units))
+    writer = Writer(10 + 6 * len(states) + 10 * len(standards) + 11 * len(units))
     writer.records(period, modules, states, standards, units)
     return writer.finish()

@@ -23,8 +23,8 @@ STATES = [
     (1, REPAIR, 5 * HOUR),
     (0, NO_PRODUCT, 6 * HOUR + 36 * MINUTE),
 ]
-STANDARDS = [(3, 0, 2 * MINUTE), (3, 4 * HOUR, 3 * MINUTE // 2), (7, 0, 3 * MINUTE)]
-UNITS = [(0, 3, 3 * HOUR, 90, 81), (1, 7, 5 * HOUR, 63, 63), (0, 3, 6 * HOUR + 36 * MINUTE, 90, 81)]
+STANDARDS = [(0, 3, 0, 2 * MINUTE), (0, 3, 4 * HOUR, 3 * MINUTE // 2), (1, 3, 0, 3 * MINUTE)]
+UNITS = [(0, 3, 3 * HOUR, 90, 81), (1, 3, 5 * HOUR, 63, 63), (0, 3, 6 * HOUR + 36 * MINUTE, 90, 81)]
 
 
 def main():
