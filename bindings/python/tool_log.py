@@ -311,7 +311,7 @@ class Writer:
         self._put(_put_state, module=module, code=code, time=time)
 
     def standard(self, module: int, recipe: int, start: int, theoretical: int) -> None:
-        """From this start on a unit of the recipe takes this theoretical time, in ms, at this module. It says nothing of other modules."""
+        """From this start on a unit of the recipe takes this theoretical time, in ms, at this module alone."""
         self._put(_put_standard, module=module, recipe=recipe, start=start, theoretical=theoretical)
 
     def unit(self, module: int, recipe: int, time: int, actual: int, effective: int) -> None:

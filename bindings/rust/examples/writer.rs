@@ -24,8 +24,8 @@ const STATES: [(u64, u64, u64); 7] = [
     (1, REPAIR, 5 * HOUR),
     (0, NO_PRODUCT, 6 * HOUR + 36 * MINUTE),
 ];
-const STANDARDS: [(u64, u64, u64); 3] = [(3, 0, 2 * MINUTE), (3, 4 * HOUR, 3 * MINUTE / 2), (7, 0, 3 * MINUTE)];
-const UNITS: [(u64, u64, u64, u64, u64); 3] = [(0, 3, 3 * HOUR, 90, 81), (1, 7, 5 * HOUR, 63, 63), (0, 3, 6 * HOUR + 36 * MINUTE, 90, 81)];
+const STANDARDS: [(u64, u64, u64, u64); 3] = [(0, 3, 0, 2 * MINUTE), (0, 3, 4 * HOUR, 3 * MINUTE / 2), (1, 3, 0, 3 * MINUTE)];
+const UNITS: [(u64, u64, u64, u64, u64); 3] = [(0, 3, 3 * HOUR, 90, 81), (1, 3, 5 * HOUR, 63, 63), (0, 3, 6 * HOUR + 36 * MINUTE, 90, 81)];
 
 fn write_log(buf: &mut [u8], period: u64) -> Result<&[u8], Refusal> {
     let mut writer = Writer::new(buf);
@@ -33,8 +33,8 @@ fn write_log(buf: &mut [u8], period: u64) -> Result<&[u8], Refusal> {
     for (module, code, time) in STATES {
         writer.state(module, code, time)?;
     }
-    for (recipe, start, theoretical) in STANDARDS {
-        writer.standard(recipe, start, theoretical)?;
+    for (module, recipe, start, theoretical) in STANDARDS {
+        writer.standard(module, recipe, start, theoretical)?;
     }
     for (module, recipe, time, actual, effective) in UNITS {
         writer.unit(module, recipe, time, actual, effective)?;

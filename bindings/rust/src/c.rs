@@ -51,6 +51,7 @@ extern "C" {
         buf: *mut u8,
         buf_len: usize,
         at: usize,
+        module: u64,
         recipe: u64,
         start: u64,
         theoretical: u64,

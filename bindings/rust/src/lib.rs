@@ -11,7 +11,7 @@ use std::fmt;
 /// The longest report: a buffer of this size suffices for every log.
 pub const LONGEST_REPORT: usize = 2494;
 /// The longest log. One byte more of a longer one is enough to decide that it is refused.
-pub const LONGEST_LOG: usize = 62618;
+pub const LONGEST_LOG: usize = 63130;
 /// The benchmarks of 512 standards, the most that a log has. Of longer ones a byte more is enough too.
 pub const LONGEST_BENCHMARKS: usize = 7168;
 
@@ -50,7 +50,7 @@ pub const GROUNDS: [(Ground, &str, &str); 22] = [
     (Period, "period", "0 or over 366 days (31,622,400,000 ms)"),
     (Modules, "modules", "0 or over 64"),
     (Counts, "counts", "over 6,000 state records, 512 standards or 2,000 unit records"),
-    (Length, "length", "bytes other than 10 + 6 states + 9 standards + 11 units; benchmarks: 14 for each standard"),
+    (Length, "length", "bytes other than 10 + 6 states + 10 standards + 11 units; benchmarks: 14 for each standard"),
     (Spare, "spare", "a spare bit set"),
     (StrayModule, "stray module", "module at or above the module count"),
     (StrayCode, "stray code", "sub-state code above 23"),
@@ -58,13 +58,13 @@ pub const GROUNDS: [(Ground, &str, &str); 22] = [
     (Sequence, "sequence", "time, then module, not above the record before, or not later than its own module's last"),
     (NoOpening, "no opening", "a module whose first record is not at time 0, or that has none"),
     (NoTime, "no time", "theoretical time 0, or a time of a benchmark 0"),
-    (Twice, "twice", "recipe and start both equal to an earlier standard's"),
+    (Twice, "twice", "module, recipe and start all equal to an earlier standard's"),
     (OverGood, "over-good", "effective units above actual units"),
     (NoStandard, "no standard", "none in force for a unit record"),
     (TooFast, "too fast", "a module's actual theoretical time above its production time"),
     (TooGreat, "too great", "a tool sum above 9,007,199,254,740,991 ms"),
     (ShortBuffer, "short buffer", "report longer than the buffer, or a record that does not fit at its position"),
-    (Unsorted, "unsorted", "out of rising sequence: standards by recipe and start, units by time, module and recipe"),
+    (Unsorted, "unsorted", "out of rising sequence: standards by module, recipe and start, units by time, module and recipe"),
     (AboveStandard, "above standard", "a time of a benchmark above its standard's theoretical time"),
     (OverCounted, "over-counted", "total effective units of a benchmark above the effective units judged by its standard"),
     (TooWide, "too wide", "a value does not fit its field"),
@@ -292,9 +292,9 @@ pub fn put_state(buf: &mut [u8], at: usize, module: u64, code: u64, time: u64) -
 }
 
 /// Adds a standard, as [`put_header`] does a header.
-pub fn put_standard(buf: &mut [u8], at: usize, recipe: u64, start: u64, theoretical: u64) -> Result<usize, Refusal> {
+pub fn put_standard(buf: &mut [u8], at: usize, module: u64, recipe: u64, start: u64, theoretical: u64) -> Result<usize, Refusal> {
     let (mut next, mut refusal) = ([0], [0; 3]);
-    let flag = unsafe { c::tl_put_standard(buf.as_mut_ptr(), buf.len(), at, recipe, start, theoretical, &mut next, &mut refusal) };
+    let flag = unsafe { c::tl_put_standard(buf.as_mut_ptr(), buf.len(), at, module, recipe, start, theoretical, &mut next, &mut refusal) };
     position(flag, next, refusal)
 }
 
@@ -324,10 +324,10 @@ pub fn finish_log(buf: &[u8], at: usize) -> Result<(), Refusal> {
 /// writer.header(3_600_000, 1, 2, 1, 1)?; // an hour of one module: two state records, a standard, a unit record
 /// writer.state(0, 0, 0)?; // module 0 is productive (code 0) from 0 on
 /// writer.state(0, 18, 2_700_000)?; // and under repair (code 18) for the last quarter
-/// writer.standard(3, 0, 60_000)?; // a unit of recipe 3 takes a minute
+/// writer.standard(0, 3, 0, 60_000)?; // a unit of recipe 3 takes a minute at module 0
 /// writer.unit(0, 3, 2_700_000, 36, 27)?; // 36 were made, 27 of them good
 /// let log = writer.finish()?;
-/// assert_eq!(log.len(), 42);
+/// assert_eq!(log.len(), 43);
 /// assert!(tool_log::report(log)?.ends_with("tool 0.7500 1.0000 0.8000 0.7500 0.4500\n"));
 /// # Ok(())
 /// # }
@@ -356,13 +356,13 @@ impl<'a> Writer<'a> {
         Ok(())
     }
 
-    /// From this start on a unit of the recipe takes this theoretical time, in ms.
-    pub fn standard(&mut self, recipe: u64, start: u64, theoretical: u64) -> Result<(), Refusal> {
-        self.at = put_standard(self.buf, self.at, recipe, start, theoretical)?;
+    /// From this start on a unit of the recipe takes this theoretical time, in ms, at this module alone.
+    pub fn standard(&mut self, module: u64, recipe: u64, start: u64, theoretical: u64) -> Result<(), Refusal> {
+        self.at = put_standard(self.buf, self.at, module, recipe, start, theoretical)?;
         Ok(())
     }
 
-    /// Units of the recipe that the module made, judged by the standard in force at this time, and how many of them are effective.
+    /// Units of the recipe that the module made, judged by its standard in force at this time, and how many of them are effective.
     pub fn unit(&mut self, module: u64, recipe: u64, time: u64, actual: u64, effective: u64) -> Result<(), Refusal> {
         self.at = put_unit(self.buf, self.at, module, recipe, time, actual, effective)?;
         Ok(())

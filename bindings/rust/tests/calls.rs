@@ -1,5 +1,5 @@
-//! Every call on logs packed here: case W, a log with no uptime, and bytes that are refused; the supplemental figures on R1-3 and on benchmarks with
-//! every fault; and the writing ones on records packed here too.
+//! Every call on logs packed here: case W, a log with no uptime, standards of two modules, and bytes that are refused; the supplemental figures on R1-3
+//! and on benchmarks with every fault; and the writing ones on records packed here too.
 
 use tool_log::*;
 
@@ -23,14 +23,21 @@ fn header(period: u64, modules: u64, states: u64, standards: u64, units: u64) ->
     packed(&[(period, 35), (modules, 7), (states, 14), (standards, 11), (units, 13)])
 }
 
+// Module, recipe, start and theoretical time, and what is in the spare bits.
+fn standard([module, recipe, start, theoretical]: [u64; 4], spare: u64) -> Vec<u8> {
+    packed(&[(module, 6), (recipe, 10), (start, 35), (theoretical, 27), (spare, 2)])
+}
+
 fn case_w(late: u64) -> Vec<u8> {
     let states = [(0, 0, 0), (1, 0, 0), (2, 0, 0), (2, 7, 288000000), (1, 7, 532800000), (0, 7, 540000000), (1, 18, 568800000), (0, 18, 586800000)];
     let units = [(0, 3600000, 280, 261), (1, 3600000, 290, 278), (2, late, 150, 150)];
-    let mut log = header(604800000, 3, 8, 1, 3);
+    let mut log = header(604800000, 3, 8, 3, 3);
     for (module, code, time) in states {
         log.extend(packed(&[(module, 6), (code, 5), (time, 35), (0, 2)]));
     }
-    log.extend(packed(&[(0, 10), (0, 35), (1800000, 27)]));
+    for module in 0..3 {
+        log.extend(standard([module, 0, 0, 1800000], 0));
+    }
     for (module, time, actual, effective) in units {
         log.extend(packed(&[(module, 6), (0, 10), (time, 35), (actual, 16), (effective, 16), (0, 5)]));
     }
@@ -53,10 +60,25 @@ fn r1_3() -> Vec<u8> {
         log.extend(packed(&[(0, 6), (code, 5), (time, 35), (0, 2)]));
     }
     for (recipe, theoretical) in (0..).zip(THEORETICAL) {
-        log.extend(packed(&[(recipe, 10), (0, 35), (theoretical, 27)]));
+        log.extend(standard([0, recipe, 0, theoretical], 0));
     }
     for (recipe, (time, actual, effective)) in (0..).zip(UNITS) {
         log.extend(packed(&[(0, 6), (recipe, 10), (time, 35), (actual, 16), (effective, 16), (0, 5)]));
+    }
+    log
+}
+
+// Ten productive milliseconds of two modules with these standards and spare bits. At time 5 each reports two units of recipe 4, one of them effective.
+fn two_modules(standards: &[([u64; 4], u64)]) -> Vec<u8> {
+    let mut log = header(10, 2, 2, standards.len() as u64, 2);
+    for module in 0..2 {
+        log.extend(packed(&[(module, 6), (0, 5), (0, 35), (0, 2)]));
+    }
+    for &(values, spare) in standards {
+        log.extend(standard(values, spare));
+    }
+    for module in 0..2 {
+        log.extend(packed(&[(module, 6), (4, 10), (5, 35), (2, 16), (1, 16), (0, 5)]));
     }
     log
 }
@@ -66,7 +88,7 @@ fn benchmark(values: [u64; 4], spare: u64) -> Vec<u8> {
     packed(&[(reference, 27), (optimized, 27), (value_added, 27), (units, 27), (spare, 4)])
 }
 
-fn benchmarks(rows: [[u64; 4]; 4]) -> Vec<u8> {
+fn benchmarks<const N: usize>(rows: [[u64; 4]; N]) -> Vec<u8> {
     rows.map(|row| benchmark(row, 0)).concat()
 }
 
@@ -102,7 +124,7 @@ fn turned_back(log: &[u8], ground: Ground, list: List, place: u64) {
 #[test]
 fn reports() {
     let log = week();
-    assert_eq!(log.len(), 100);
+    assert_eq!(log.len(), 121);
     assert_eq!(report(&log).as_deref(), Ok(REPORT));
     let mut buf = [0xa5; 200];
     assert_eq!(report_into(&log, &mut buf).map(|part| part.len()), Ok(183));
@@ -196,11 +218,17 @@ fn supplemental_figures() {
     assert_eq!(supplemental(&r1_3(), &benchmarks(least)), four(8690, 0, 0, 0));
 }
 
-// Case W has 689 effective units of three modules, judged by one standard, and 1,814,400,000 ms: 689 x 90,720 are 344.5 ten-thousandths.
+// Case W: each module's effective units are judged by its own standard. Of 1,814,400,000 ms, 261 x 1,800,000 + 278 x 900,000 + 150 x 450,000 are
+// 4,340.3 ten-thousandths, 689 x 90,720 are 344.5.
 #[test]
 fn supplemental_figures_of_all_modules() {
-    assert_eq!(supplemental(&week(), &benchmark([1800000, 90720, 90719, 689], 0)), four(6835, 345, 344, 6835));
-    assert_eq!(supplemental(&week(), &benchmark([1800000, 90720, 90719, 690], 0)), not_benchmarks(Ground::OverCounted, 0));
+    let rows = [[1800000, 90720, 90719, 261], [900000, 90720, 90719, 278], [450000, 90720, 90719, 150]];
+    assert_eq!(supplemental(&week(), &benchmarks(rows)), four(4340, 345, 344, 6835));
+    for m in 0..3 {
+        let mut more = rows;
+        more[m][3] += 1;
+        assert_eq!(supplemental(&week(), &benchmarks(more)), not_benchmarks(Ground::OverCounted, m));
+    }
     assert_eq!(supplemental(&idle(), &[]), four(0, 0, 0, 0));
     assert_eq!(supplemental(&idle(), &[0; 14]), not_benchmarks(Ground::Length, 0));
 }
@@ -253,11 +281,41 @@ fn damaged() {
     let log = week();
     turned_back(&[], Ground::NoHeader, List::None, 0);
     turned_back(&log[..9], Ground::NoHeader, List::None, 0);
-    turned_back(&log[..99], Ground::Length, List::None, 0);
+    turned_back(&log[..120], Ground::Length, List::None, 0);
     turned_back(&[&log[..], &[0]].concat(), Ground::Length, List::None, 0);
     turned_back(&case_w(604800000), Ground::Outside, List::Units, 2);
     turned_back(&case_w(3599999), Ground::Unsorted, List::Units, 2);
-    turned_back(&[&log[..99], &[1]].concat(), Ground::Spare, List::Units, 2);
+    turned_back(&[&log[..120], &[1]].concat(), Ground::Spare, List::Units, 2);
+}
+
+// One recipe and start: 2 ms a unit at module 0, 3 ms at module 1.
+#[test]
+fn each_module_by_its_own_time() {
+    let log = two_modules(&[([0, 4, 0, 2], 0), ([1, 4, 0, 3], 0)]);
+    let of = |total, actual, effective| Ok(Quantities { total, uptime: total, production: total, actual, effective });
+    assert_eq!(module_quantities(&log, 0), of(10, 4, 2));
+    assert_eq!(module_quantities(&log, 1), of(10, 6, 3));
+    assert_eq!(tool_quantities(&log), of(20, 10, 5));
+}
+
+#[test]
+fn standards_of_modules() {
+    let (own, other) = ([0, 4, 0, 2], [1, 4, 0, 3]);
+    let refused = |standards: &[([u64; 4], u64)], ground, list, place| turned_back(&two_modules(standards), ground, list, place);
+    for spare in 1..4 {
+        refused(&[(own, spare), (other, 0)], Ground::Spare, List::Standards, 0);
+        refused(&[(own, 0), (other, spare)], Ground::Spare, List::Standards, 1);
+        refused(&[(own, 0), (other, 0), ([2, 4, 10, 0], spare)], Ground::Spare, List::Standards, 2);
+    }
+    for module in [2, 63] {
+        refused(&[(own, 0), (other, 0), ([module, 4, 10, 0], 0)], Ground::StrayModule, List::Standards, 2);
+    }
+    refused(&[(own, 0), (other, 0), (own, 0)], Ground::Twice, List::Standards, 2);
+    refused(&[(other, 0), ([0, 5, 0, 2], 0)], Ground::Unsorted, List::Standards, 1);
+    // Of each recipe and time only the other module has a standard in force.
+    refused(&[(own, 0), ([1, 5, 0, 3], 0)], Ground::NoStandard, List::Units, 1);
+    refused(&[([0, 5, 0, 2], 0), (other, 0)], Ground::NoStandard, List::Units, 0);
+    refused(&[(own, 0), ([1, 4, 6, 3], 0)], Ground::NoStandard, List::Units, 1);
 }
 
 #[test]
@@ -273,7 +331,7 @@ fn words() {
     let of_benchmarks = |ground, place| Refusal { ground, list: List::Benchmarks, place }.to_string();
     assert_eq!(
         of_benchmarks(Ground::Length, 0),
-        "refused: 5 length: bytes other than 10 + 6 states + 9 standards + 11 units; benchmarks: 14 for each standard (the benchmarks)"
+        "refused: 5 length: bytes other than 10 + 6 states + 10 standards + 11 units; benchmarks: 14 for each standard (the benchmarks)"
     );
     assert_eq!(of_benchmarks(Ground::NoTime, 3), "refused: 12 no time: theoretical time 0, or a time of a benchmark 0 (benchmark 3)");
 }
@@ -348,7 +406,7 @@ fn random_bytes() {
             turned_back(&log, Ground::Modules, List::None, 0);
         } else if states > 6000 || standards > 512 || units > 2000 {
             turned_back(&log, Ground::Counts, List::None, 0);
-        } else if length as u64 != 10 + 6 * states + 9 * standards + 11 * units {
+        } else if length as u64 != 10 + 6 * states + 10 * standards + 11 * units {
             turned_back(&log, Ground::Length, List::None, 0);
         } else {
             assert!(examine(&log, 0).is_err());
@@ -362,7 +420,7 @@ fn random_bytes() {
 const KINDS: [(List, &[u32], u32); 4] = [
     (List::None, &[35, 7, 14, 11, 13], 0),
     (List::States, &[6, 5, 35], 2),
-    (List::Standards, &[10, 35, 27], 0),
+    (List::Standards, &[6, 10, 35, 27], 2),
     (List::Units, &[6, 10, 35, 16, 16], 5),
 ];
 
@@ -382,7 +440,7 @@ fn put(kind: usize, buf: &mut [u8], at: usize, values: &[u64]) -> Result<usize, 
     match (kind, values) {
         (0, &[period, modules, states, standards, units]) => put_header(buf, at, period, modules, states, standards, units),
         (1, &[module, code, time]) => put_state(buf, at, module, code, time),
-        (2, &[recipe, start, theoretical]) => put_standard(buf, at, recipe, start, theoretical),
+        (2, &[module, recipe, start, theoretical]) => put_standard(buf, at, module, recipe, start, theoretical),
         (3, &[module, recipe, time, actual, effective]) => put_unit(buf, at, module, recipe, time, actual, effective),
         _ => panic!("{values:?} for {kind}"),
     }
@@ -392,7 +450,7 @@ fn put_by(writer: &mut Writer, kind: usize, values: &[u64]) -> Result<(), Refusa
     match (kind, values) {
         (0, &[period, modules, states, standards, units]) => writer.header(period, modules, states, standards, units),
         (1, &[module, code, time]) => writer.state(module, code, time),
-        (2, &[recipe, start, theoretical]) => writer.standard(recipe, start, theoretical),
+        (2, &[module, recipe, start, theoretical]) => writer.standard(module, recipe, start, theoretical),
         (3, &[module, recipe, time, actual, effective]) => writer.unit(module, recipe, time, actual, effective),
         _ => panic!("{values:?} for {kind}"),
     }
@@ -454,22 +512,38 @@ fn widths() {
     }
 }
 
+// 6 bits of the module, 10 of the recipe, 35 of the start, 27 of the theoretical time, 2 spare: the bytes are worked out by hand.
+#[test]
+fn a_standard_by_hand() {
+    for (values, due) in [
+        ([1, 2, 3, 4], [0x04, 0x02, 0x00, 0x00, 0x00, 0x00, 0x60, 0x00, 0x00, 0x10]),
+        ([63, 0, greatest(35), 0], [0xfc, 0x00, 0xff, 0xff, 0xff, 0xff, 0xe0, 0x00, 0x00, 0x00]),
+        ([0, 1023, 0, greatest(27)], [0x03, 0xff, 0x00, 0x00, 0x00, 0x00, 0x1f, 0xff, 0xff, 0xfc]),
+    ] {
+        let mut buf = [0xa5; 10];
+        assert_eq!(put(2, &mut buf, 0, &values), Ok(10));
+        assert_eq!(buf, due);
+    }
+    let too_wide = Refusal { ground: Ground::TooWide, list: List::Standards, place: 0 };
+    assert_eq!(put_standard(&mut [0; 10], 0, 64, 0, 0, 1), Err(too_wide));
+}
+
 #[test]
 fn finishing() {
     let log = week();
     let mut buf = [0xa5; 160];
-    buf[..100].copy_from_slice(&log);
+    buf[..121].copy_from_slice(&log);
     for at in 0..=160 {
         let ground = if at < 10 { Ground::NoHeader } else { Ground::Length };
         let refused = Err(Refusal { ground, list: List::None, place: 0 });
-        assert_eq!(finish_log(&buf, at), if at == 100 { Ok(()) } else { refused });
+        assert_eq!(finish_log(&buf, at), if at == 121 { Ok(()) } else { refused });
     }
-    for at in [161, 1 << 32, (1 << 32) + 100, usize::MAX - 100, usize::MAX] {
+    for at in [161, 1 << 32, (1 << 32) + 121, usize::MAX - 121, usize::MAX] {
         assert_eq!(finish_log(&buf, at), Err(SHORT));
         assert_eq!(finish_log(&case_w(604800000), at), Err(SHORT));
     }
-    assert_eq!(finish_log(&log, 100), Ok(()));
-    assert_eq!(finish_log(&log, 101), Err(SHORT));
+    assert_eq!(finish_log(&log, 121), Ok(()));
+    assert_eq!(finish_log(&log, 122), Err(SHORT));
     assert_eq!(finish_log(&[], 0), Err(Refusal { ground: Ground::NoHeader, list: List::None, place: 0 }));
     assert_eq!(finish_log(&[], 1), Err(SHORT));
 }
@@ -479,13 +553,13 @@ fn finishing() {
 fn a_log_written() {
     let states = [[0, 0, 0], [1, 0, 0], [2, 0, 0], [2, 7, 288000000], [1, 7, 532800000], [0, 7, 540000000], [1, 18, 568800000], [0, 18, 586800000]];
     let units = [[0, 0, 3600000, 280, 261], [1, 0, 3600000, 290, 278], [2, 0, 3600000, 150, 150]];
-    let mut records: Vec<(usize, Vec<u64>)> = vec![(0, vec![604800000, 3, 8, 1, 3])];
+    let mut records: Vec<(usize, Vec<u64>)> = vec![(0, vec![604800000, 3, 8, 3, 3])];
     records.extend(states.map(|values| (1, values.to_vec())));
-    records.push((2, vec![0, 0, 1800000]));
+    records.extend([0, 1, 2].map(|module| (2, vec![module, 0, 0, 1800000])));
     records.extend(units.map(|values| (3, values.to_vec())));
 
     let log = week();
-    let mut buf = [0xa5; 100];
+    let mut buf = [0xa5; 121];
     let mut writer = Writer::new(&mut buf);
     let mut length = 0;
     for (kind, values) in records {
