@@ -1,5 +1,5 @@
-//! Every call on logs packed here: case W, a log with no uptime, standards of two modules, and bytes that are refused; the supplemental figures on R1-3
-//! and on benchmarks with every fault; and the writing ones on records packed here too.
+//! Every call on logs packed here: case W, a log with no uptime, standards of two modules, and bytes that are refused; the supplemental figures on
+//! R1-3 and on benchmarks with every fault; and the writing ones on records packed here too.
 
 use tool_log::*;
 
@@ -68,7 +68,8 @@ fn r1_3() -> Vec<u8> {
     log
 }
 
-// Ten productive milliseconds of two modules with these standards and spare bits. At time 5 each reports two units of recipe 4, one of them effective.
+// Ten productive milliseconds of two modules, with these standards and spare bits. At time 5 each reports two units of recipe 4, one of them
+// effective.
 fn two_modules(standards: &[([u64; 4], u64)]) -> Vec<u8> {
     let mut log = header(10, 2, 2, standards.len() as u64, 2);
     for module in 0..2 {
