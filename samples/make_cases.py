@@ -1,15 +1,15 @@
 #!/usr/bin/env python3
-"""Makes the input of the program `cases` and what it must print: the edge cases of document 01 and of R-1, the printed figures of 002 and
-of 003's worked example, and inputs that are no log, as reports and through the calls for state times, quantities and doubles; and R1-3 of
-002 and the refusals of benchmarks through the call for the supplemental figures. What each must give is written here from those papers: hours as
-002 prints them, doubles from exact fractions. The logs are written by the library, as make.py's are; of what they must give nothing is taken
-from it."""
+"""Makes the input of the program `cases` and what it must print: the edge cases of document 01, of R-1 and of R-5, the printed figures of 002 and
+of 003's worked example, a tool with a faster chamber, and inputs that are no log, as reports and through the calls for state times, quantities and
+doubles; and R1-3 of 002, that tool and the refusals of benchmarks through the call for the supplemental figures. What each must give is written here
+from those papers: hours as 002 prints them, doubles from exact fractions. The logs are written by the library, as make.py's are; of what they must
+give nothing is taken from it."""
 
 import struct
 from fractions import Fraction
 from pathlib import Path
 
-from make import HOUR, WEEK, case_w, guidebook, log, pack_benchmarks, r1_1, r1_2, r1_3
+from make import HOUR, WEEK, case_w, chamber, guidebook, last_bit_set, log, pack_benchmarks, r1_1, r1_2, r1_3
 
 # The kinds of a case, as crates/cases/src/main.rt has them.
 REPORT, MODULE_TIMES, TOOL_TIMES, MODULE_QUANTITIES, TOOL_QUANTITIES, MODULE_DOUBLES, TOOL_DOUBLES, WRITE, PRINT, SUPPLEMENTAL = range(10)
@@ -41,6 +41,15 @@ R1_1 = "0.9286 0.9423 0.9841 0.9862 0.8492\n"
 GUIDEBOOK = "0.7857 0.7758 0.8245 0.9296 0.4672\n"
 PRODUCTIVE = "1.0000 1.0000 0.0000 - 0.0000\n"
 FULL_SPEED = "1.0000 1.0000 1.0000 1.0000 1.0000\n"
+# The new chamber, in hours: 22 of 24, 20 of 22; 600 x 90 s are 15 of 20, 600 x 60 s are 10 of 20, and all of them 40 of 60; 588 of 600; 588 x 90 s
+# are 14.7 of 24, 588 x 60 s are 9.8 of 24, and all of them 39.2 of 72.
+CHAMBER = (
+    HEADING
+    + "0 0.9167 0.9091 0.7500 0.9800 0.6125\n"
+    + "1 0.9167 0.9091 0.7500 0.9800 0.6125\n"
+    + "2 0.9167 0.9091 0.5000 0.9800 0.4083\n"
+    + "tool 0.9167 0.9091 0.6667 0.9800 0.5444\n"
+)
 
 
 def of_one_module(figures):
@@ -68,12 +77,14 @@ def changed(code, time):
 
 def made(standards, *units):
     """Ten productive milliseconds of module 0, and units of recipe 0."""
-    return log(10, 1, [(0, 0, 0)], [(0, *standard) for standard in standards], [(0, 0, *unit) for unit in units])
+    return log(10, 1, [(0, 0, 0)], [(0, 0, *standard) for standard in standards], [(0, 0, *unit) for unit in units])
 
 
 def full_speed(modules):
     """A millisecond in which each module makes a unit of 1 ms."""
-    return log(1, modules, [(module, 0, 0) for module in range(modules)], [(0, 0, 1)], [(module, 0, 0, 1, 1) for module in range(modules)])
+    each = range(modules)
+    standards, units = [(module, 0, 0, 1) for module in each], [(module, 0, 0, 1, 1) for module in each]
+    return log(1, modules, [(module, 0, 0) for module in each], standards, units)
 
 
 def up(length, period):
@@ -81,7 +92,7 @@ def up(length, period):
     return log(period, 1, [(0, 0, 0), (0, 22, length)], [], [])
 
 
-def listed(states=((0, 0, 0), (1, 0, 0)), standards=((0, 0, 1), (1, 0, 1)), units=()):
+def listed(states=((0, 0, 0), (1, 0, 0)), standards=((0, 0, 0, 1), (0, 1, 0, 1), (1, 0, 0, 1), (1, 1, 0, 1)), units=()):
     """Ten milliseconds of two modules and two recipes. Nothing is wrong with it but what is given."""
     return log(10, 2, states, standards, units)
 
@@ -90,24 +101,43 @@ def lines(modules, figures):
     return HEADING + "".join(f"{module} {figures}" for module in range(modules)) + "tool " + figures
 
 
+def two_rates(*rates):
+    """The report of modules 0 and 1, productive all the time, and of the tool, where every unit is effective: OEE is the rate."""
+    return HEADING + "".join(f"{name} 1.0000 1.0000 {rate} 1.0000 {rate}\n" for name, rate in zip(("0", "1", "tool"), rates))
+
+
 assert len(CASE_W) == 183
 
 TWO = [(0, 2), (4, 3)]  # start and theoretical time
 
-# R-1's rising sequence: name, log, expected text
+# R-1's rising sequence and R-5's standards of one module: name, log, expected text
 IN_SEQUENCE = listed(units=[(0, 1, 5, 1, 1), (1, 0, 5, 1, 1), (1, 1, 5, 1, 1), (0, 0, 6, 1, 1)])
 UNITS_ALIKE = listed(units=[(0, 0, 5, 1, 1), (0, 0, 5, 2, 1), (0, 0, 6, 1, 1)])
-LOWER_RECIPE = listed(standards=[(1, 0, 1), (0, 5, 1)])
+LOWER_RECIPE = listed(standards=[(0, 1, 0, 1), (0, 0, 5, 1)])
 LOWER_MODULE = listed(states=[(1, 0, 0), (0, 0, 0)])
+ONE_EACH = [(0, 0, 5, 1, 1), (1, 0, 5, 1, 1)]  # of recipe 0
+STRAY_STANDARD = listed(standards=[(0, 0, 0, 1), (2, 0, 10, 1)])
+OTHER_MODULE = listed(standards=[(0, 0, 0, 1), (1, 1, 0, 1)], units=ONE_EACH)
 SEQUENCES = [
     ("in sequence", IN_SEQUENCE, lines(2, "1.0000 1.0000 0.2000 1.0000 0.2000\n")),
     ("openings, a lower module", LOWER_MODULE, refused(10, 1, 1)),
     ("changes, a lower module", listed(states=[(0, 0, 0), (1, 0, 0), (1, 7, 5), (0, 7, 5)]), refused(10, 1, 3)),
     ("standards, a lower recipe", LOWER_RECIPE, refused(19, 2, 1)),
-    ("standards, an earlier start", listed(standards=[(0, 5, 1), (0, 4, 1)]), refused(19, 2, 1)),
-    ("standards, an equal neighbour", listed(standards=[(0, 5, 1), (0, 5, 2)]), refused(13, 2, 1)),
-    ("standards, an equal one further up", listed(standards=[(0, 0, 1), (1, 0, 1), (0, 0, 2)]), refused(13, 2, 2)),
-    ("standards, 12 ahead of 19", listed(standards=[(1, 0, 1), (0, 0, 0)]), refused(12, 2, 1)),
+    ("standards, an earlier start", listed(standards=[(0, 0, 5, 1), (0, 0, 4, 1)]), refused(19, 2, 1)),
+    ("standards, a lower module", listed(standards=[(1, 0, 0, 1), (0, 1, 5, 1)]), refused(19, 2, 1)),
+    ("standards, an equal neighbour", listed(standards=[(0, 0, 5, 1), (0, 0, 5, 2)]), refused(13, 2, 1)),
+    ("standards, an equal one further up", listed(standards=[(0, 0, 0, 1), (0, 1, 0, 1), (0, 0, 0, 2)]), refused(13, 2, 2)),
+    # 1 and 2 of 10 ms, 3 of 20
+    ("standards, one further up that is equal but for its module", listed(standards=[(0, 0, 0, 1), (0, 1, 0, 1), (1, 0, 0, 2)], units=ONE_EACH),
+     two_rates("0.1000", "0.2000", "0.1500")),
+    # 2 and 3 of 10 ms, 5 of 20
+    ("standards, modules rising, recipes falling", listed(standards=[(0, 1, 5, 2), (1, 0, 0, 3)], units=[(0, 1, 5, 1, 1), (1, 0, 5, 1, 1)]),
+     two_rates("0.2000", "0.3000", "0.2500")),
+    ("standards, 12 ahead of 19", listed(standards=[(0, 1, 0, 1), (0, 0, 0, 0)]), refused(12, 2, 1)),
+    ("standards, 7 ahead of 9", STRAY_STANDARD, refused(7, 2, 1)),
+    ("standards, 6 ahead of 7", last_bit_set(STRAY_STANDARD, len(STRAY_STANDARD)), refused(6, 2, 1)),
+    ("standards, the other spare bit", STRAY_STANDARD[:-1] + bytes([STRAY_STANDARD[-1] | 2]), refused(6, 2, 1)),
+    ("units, a recipe of the other module alone", OTHER_MODULE, refused(15, 3, 1)),
     ("units, an earlier time", listed(units=[(0, 0, 5, 1, 1), (1, 1, 4, 1, 1)]), refused(19, 3, 1)),
     ("units, a lower module", listed(units=[(1, 0, 5, 1, 1), (0, 1, 5, 1, 1)]), refused(19, 3, 1)),
     ("units, a lower recipe", listed(units=[(0, 1, 5, 1, 1), (0, 0, 5, 1, 1)]), refused(19, 3, 1)),
@@ -154,10 +184,11 @@ REPORTS = [
     ("R1-1", r1_1(), ROOM, of_one_module(R1_1)),
     ("R1-2", r1_2(), ROOM, CASE_W),  # the figures of case W are R1-2's
     ("worked example of 003", guidebook(), ROOM, of_one_module(GUIDEBOOK)),
+    ("new chamber", chamber(), ROOM, CHAMBER),
     ("one byte short", case_w()[:-1], ROOM, refused(5)),
     ("one byte long", case_w() + b"\0", ROOM, refused(5)),
     ("one byte long, 4,096 bytes", case_w() + b"\0", MORE, refused(5)),
-    ("70,000 bytes", case_w() + bytes(70_000 - 100), ROOM, refused(5)),
+    ("70,000 bytes", case_w() + bytes(70_000 - 121), ROOM, refused(5)),
     ("70,000 zeros", bytes(70_000), ROOM, refused(2)),
     ("no bytes for no buffer", b"", 0, refused(1)),
     *((name, data, ROOM, text) for name, data, text in SEQUENCES),
@@ -286,6 +317,11 @@ W_QUANTITIES = [
 GUIDEBOOK_TIMES = in_ms("102.4 24.6 5.0 28 8 0")
 GUIDEBOOK_QUANTITIES = in_ms(f"168.0 132.0 102.4 {Fraction('5065.8') / 60} {(524 * Fraction('2.5') + 1030 * Fraction('3.3')) / 60}")
 
+# The new chamber: a day of 24 hours, of which each module is productive for 20, has no product for 2 and is under maintenance for 2. Each makes 600
+# wafers, 588 of them good, at 90 s, 90 s and 60 s.
+CHAMBER_TIMES = in_ms("20 2 0 2 0 0")
+CHAMBER_QUANTITIES = [in_ms(f"24 22 20 {Fraction(600 * seconds, 3600)} {Fraction(588 * seconds, 3600)}") for seconds in (90, 90, 60)]
+
 LONGEST_PERIOD = 31_622_400_000
 GREATEST = 64 * LONGEST_PERIOD
 
@@ -304,6 +340,8 @@ CALLS = [
     *three_calls("case W 1", case_w(), 1, W_TIMES[1], W_QUANTITIES[1]),
     *three_calls("case W 2", case_w(), 2, W_TIMES[2], W_QUANTITIES[2]),
     *three_calls("case W", case_w(), None, sums(*W_TIMES), sums(*W_QUANTITIES)),
+    *three_calls("new chamber 2", chamber(), 2, CHAMBER_TIMES, CHAMBER_QUANTITIES[2]),
+    *three_calls("new chamber", chamber(), None, sums(*[CHAMBER_TIMES] * 3), sums(*CHAMBER_QUANTITIES)),
     # no base: no uptime, and no unit made
     *three_calls("11 no uptime", NO_UPTIME, 0, (0, 0, 0, 0, 0, 10), (10, 0, 0, 0, 0)),
     *three_calls("11 no uptime", NO_UPTIME, None, (0, 0, 0, 0, 0, 10), (10, 0, 0, 0, 0)),
@@ -319,6 +357,8 @@ CALLS = [
     *turned_back_by(CALLED, "a lower module", LOWER_MODULE, 0, 10, 1, 1),
     *turned_back_by(CALLED, "a lower recipe", LOWER_RECIPE, 0, 19, 2, 1),
     *turned_back_by(CALLED, "units alike", UNITS_ALIKE, 1, 19, 3, 1),
+    *turned_back_by(CALLED, "a stray standard", STRAY_STANDARD, 0, 7, 2, 1),
+    *turned_back_by(CALLED, "a recipe of the other module alone", OTHER_MODULE, 0, 15, 3, 1),
     # a module that an accepted log does not have
     *turned_back_by(OF_MODULE, "stray module 3", case_w(), 3, 7, 0, 3),
     *turned_back_by(OF_MODULE, "stray module 2^32 - 1", case_w(), 2**32 - 1, 7, 0, 2**32 - 1),
@@ -328,6 +368,8 @@ CALLS = [
 
 # 002, Table R1-2, in ms: reference, optimized and value-added time, and total effective units, of recipes A to D
 R1_3 = [(119_988, 90_000, 36_000, 1250), (119_988, 72_000, 18_000, 550), (119_988, 54_000, 18_000, 725), (119_988, 117_000, 36_000, 450)]
+# the new chamber's, in ms: a row for each module
+CHAMBER_ROWS = [(60_000, 45_000, 30_000, 588), (60_000, 45_000, 30_000, 580), (60_000, 30_000, 30_000, 500)]
 # ten milliseconds, two revisions of recipe 0 and two units: one of 2 ms, one of 3 ms
 REVISED = made(TWO, (3, 1, 1), (5, 1, 1))
 
@@ -347,6 +389,10 @@ SUPPLEMENTALS = [
     by_benchmarks("R1-3", r1_3(), R1_3, 6706, 4589, 1595, 7733),
     # 2 + 3 of 10 ms, 1 + 1, 1 + 2, and the second unit's 3
     by_benchmarks("each revision by its own benchmark", REVISED, [(2, 1, 1, 0), (3, 1, 2, 1)], 5000, 2000, 3000, 3000),
+    # 588 units of each module by its own times, in s: 588 x 180, 588 x 120 and 588 x 90 of 259,200; 588 x 90 + 580 x 90 + 500 x 60
+    by_benchmarks("each module by its own benchmark", chamber(), CHAMBER_ROWS, 4083, 2722, 2042, 5213),
+    by_benchmarks("benchmarks, units of two modules", chamber(), [(60_000, 45_000, 30_000, 1_176), *CHAMBER_ROWS[1:]], 21, 4, 0),
+    by_benchmarks("benchmarks, a time of another module", chamber(), [*CHAMBER_ROWS[:2], (90_000, 30_000, 30_000, 500)], 20, 4, 2),
     by_benchmarks("no standards", productive(10), b"", 0, 0, 0, 0),
     by_benchmarks("no standards, a byte", productive(10), b"\0", 5, 4, 0),
     by_benchmarks("benchmarks, a byte short", r1_3(), pack_benchmarks(R1_3)[:-1], 5, 4, 0),
