@@ -1,8 +1,8 @@
 -- Each unit record of an accepted log is judged by just one standard. So what is summed over the unit records may be summed over the standards: judged units
 -- times their standards' times make the theoretical time of all modules.
 -- Assumes nothing.
-use mathlib.Core.Path.{_≡_, refl, sym, ap₂, _∙_}
-use mathlib.Core.Bool.{cond, false, not}
+use mathlib.Core.Path.{_≡_, refl, sym, ap, ap₂, _∙_}
+use mathlib.Core.Bool.{cond, true, false, not}
 use mathlib.Core.Option.{Option, none, some}
 use mathlib.Core.List.{List, [], _∷_, _++_}
 use Prim.Native.Nat.{ℕ, zero, suc, _+_, _*_, _≤_, _<_}
@@ -10,16 +10,17 @@ use native.Mathlib.Nat.{add-zero, zero-add, zero-mul, add-mul}
 use native.Mathlib.Decide.{ℕ-discrete}
 use native.Mathlib.Omega.{arith}
 use lib.Dec.{leb, ltb, eqb}
-use borrow.Author.Tests.{eq-eqb, ne-eqb, leb-false}
+use borrow.Author.Tests.{eq-eqb, eqb-true, ne-eqb, leb-false}
 use Rattle.records.specs.declared.Standard.{Standard}
 use Rattle.records.specs.declared.UnitRecord.{UnitRecord}
 use Rattle.records.specs.Log.{upTo}
 use Rattle.rules.specs.declared.Placed.{Placed}
 use Rattle.rules.specs.declared.Verdict.the-variants.{Accepted}
 use Rattle.rules.specs.Grounds.{ground, inTurn, _then_}
-use Rattle.rules.specs.Theoretical.{inForce, Answers, timeOf, credit, theoreticalTime, isAt, judgedBy, unitsJudged}
+use Rattle.rules.specs.Theoretical.{inForce, For, Answers, timeOf, credit, theoreticalTime, isAt, judgedBy, unitsJudged}
 use Rattle.rules.specs.Quantities.{sumBelow}
 use Rattle.rules.specs.RecordGrounds.{isNone, unitGround, unitGrounds}
+use Rattle.rules.proofs.Booleans.{false-true}
 use Rattle.rules.proofs.FirstGround.{then-left, then-right, not-met}
 use Rattle.rules.proofs.InForce.{in-force}
 use Rattle.rules.proofs.SumLaws.{sum-same, sum-add, sum-each}
@@ -87,6 +88,15 @@ module _ (at : ℕ → Standard) (n : ℕ) where
       same : (i : ℕ) → Dec (p .index ≡ i) → cond (eqb (p .index) i) a 0 * at i .theoretical ≡ cond (eqb (p .index) i) (a * p .standard .theoretical) 0
       same i (yes q) = rw (eq-eqb (p .index) i q, ← q, f .same)
       same i (no ne) = rw (ne-eqb (p .index) i ne) (zero-mul (at i .theoretical))
+
+  -- a standard judges units of its own module and recipe alone
+  pub judged-own : (u : UnitRecord) (i : ℕ) → judgedBy listed u i ≡ true → For (u .«module») (u .recipe) (at i)
+  unfolding judgedBy
+  judged-own u i e = go (inForce listed (u .«module») (u .recipe) (u .time)) (in-force at (u .«module») (u .recipe) (u .time) n) e
+    where
+      go : (o : Option Placed) → Answers at n (u .«module») (u .recipe) (u .time) o → isAt i o ≡ true → For (u .«module») (u .recipe) (at i)
+      go none f e = absurd (false-true e)
+      go (some p) f e = let q : p .standard ≡ at i = f .same ∙ ap at (eqb-true (p .index) i e) in rw q at (f .own)
 
   -- ---- all unit records
 

@@ -7,12 +7,12 @@ use mathlib.Core.List.{List, [], _∷_, foldl}
 use Prim.Native.Nat.{ℕ, suc, _+_, _*_}
 use lib.Dec.{leb, eqb}
 use borrow.Author.Tests.{eqb-true}
-use Rattle.records.specs.Log.{Log}
 use Rattle.records.specs.declared.Standard.{Standard}
 use Rattle.records.specs.declared.UnitRecord.{UnitRecord}
 use Rattle.rules.specs.declared.Placed.{Placed}
-use Rattle.rules.specs.Theoretical.{placedFrom, later, hasBegun, consider, inForce, timeOf, credit, theoreticalTime, ownStandards}
-use Rattle.rules.specs.Quantities.{uptime, timeIn, actualTime, effectiveTime, ofModule}
+use Rattle.rules.specs.Theoretical.{placedFrom, later, hasBegun, consider, inForce, timeOf, credit, theoreticalTime}
+use Rattle.rules.specs.Quantities.{uptime, timeIn, actualTime, effectiveTime}
+use Rattle.rules.specs.OwnStandards.{ownStandards, OwnStandardsAlone}
 
 -- ---- the standard in force, without its index
 
@@ -97,14 +97,9 @@ module _ (units : UnitRecord → ℕ) (ss : List Standard) (m : ℕ) where
   time-own [] = refl
   time-own (u ∷ us) = ap₂ _+_ (credit-own u) (time-own us)
 
--- the same log with other standards
-abbrev pub withStandards : Log → List Standard → Log
-withStandards l ss = record { period = l .period; modules = l .modules; states = l .states; standards = ss; units = l .units }
-
--- standards of other modules added, changed, moved or taken away leave a module's five quantities as they are
-pub other-modules : (l : Log) (ss : List Standard) (m : ℕ) → ownStandards m (l .standards) ≡ ownStandards m ss → ofModule l m ≡ ofModule (withStandards l ss) m
+pub own-standards-alone : OwnStandardsAlone
 unfolding uptime timeIn actualTime effectiveTime
-other-modules l ss m e =
+own-standards-alone l ss m e =
     let own : (units : UnitRecord → ℕ) → theoreticalTime units (l .standards) (l .units) m ≡ theoreticalTime units ss (l .units) m
     = λ units. time-own units (l .standards) m (l .units) ∙ ap (λ (ts : List Standard). theoreticalTime units ts (l .units) m) e ∙ sym (time-own units ss m (l .units)) in
     rw (own (λ u. u .actual), own (λ u. u .effective))

@@ -6,6 +6,7 @@ pub mod Sequence
 pub mod Keys
 pub mod RecordGrounds
 pub mod Quantities
+pub mod OwnStandards
 pub mod Verdict
 pub mod Refusals
 pub mod SameRecords

@@ -82,11 +82,6 @@ unfolding credit
 theoreticalTime units ss [] m = 0
 theoreticalTime units ss (u ∷ us) m = credit units ss m u + theoreticalTime units ss us m
 
--- module m's own standards, in their sequence
-unfoldable pub ownStandards : ℕ → List Standard → List Standard
-ownStandards m [] = []
-ownStandards m (s ∷ ss) = cond (eqb (s .«module») m) (s ∷ ownStandards m ss) (ownStandards m ss)
-
 -- ---- which standard judges a unit record
 
 abbrev pub isAt : ℕ → Option Placed → Bool
