@@ -1,7 +1,7 @@
 -- What the rising sequence spares a pass over a list: where the records so far rise and one is after the last of them, it is later than its own module's last,
 -- and its module, recipe and start are no earlier standard's. So one comparison decides, and only a record that breaks the sequence needs a search for 13.
 -- Assumes nothing.
-use mathlib.Core.Path.{_≡_, refl, sym}
+use mathlib.Core.Path.{_≡_, refl}
 use mathlib.Core.Bool.{Bool, true, false, _&&_, _||_, cond}
 use mathlib.Core.Option.{Option, none, some}
 use mathlib.Core.List.{List, [], _∷_, foldl}

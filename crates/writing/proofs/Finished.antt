@@ -24,10 +24,6 @@ pub each : {A : Type 0} {P Q : A → Type 0} → ((r : A) → P r → Q r) → (
 each f [] p = tt
 each f (r ∷ rs) p = (f r (p .0), each f rs (p .1))
 
-pub all : {A : Type 0} {P : A → Type 0} → ((r : A) → P r) → (rs : List A) → Each P rs
-all f [] = tt
-all f (r ∷ rs) = (f r, all f rs)
-
 module _ {A : Type 0} (of : A → Entry) (size : ℕ) (slots : A → List Slot) where
   -- r is added as the bytes of a log have it
   pub record Faithful (r : A) : Type 0 where

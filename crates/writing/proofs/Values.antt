@@ -19,17 +19,15 @@ state-lt m c t h k l = omega arith
 pub state-value : (m c t : ℕ) → m * 2 ^ 42 + c * 2 ^ 37 + t * 2 ^ 2 ≡ valueOf (stateEntry m c t .slots)
 state-value m c t = omega arith
 
-pub standard-lt : (m r s t : ℕ) → m < 2 ^ 6 → r < 2 ^ 10 → s < 2 ^ 35 → t < 2 ^ 27 → m * 2 ^ 58 + r * 2 ^ 48 + s * 2 ^ 13 + t / 2 ^ 14 < 2 ^ 64
-standard-lt m r s t g h k l = omega arith
+-- the first eight bytes of a standard and of a unit record
+pub front-lt : (m r t x : ℕ) → m < 2 ^ 6 → r < 2 ^ 10 → t < 2 ^ 35 → x < 2 ^ 13 → m * 2 ^ 58 + r * 2 ^ 48 + t * 2 ^ 13 + x < 2 ^ 64
+front-lt m r t x h k l n = omega arith
 
 pub standard-first : (m r s t : ℕ) → m * 2 ^ 58 + r * 2 ^ 48 + s * 2 ^ 13 + t / 2 ^ 14 ≡ valueOf (standardEntry m r s t .slots) / 2 ^ 16
 standard-first m r s t = omega arith
 
 pub standard-second : (m r s t : ℕ) → t * 4 % 2 ^ 16 ≡ valueOf (standardEntry m r s t .slots) % 2 ^ 16
 standard-second m r s t = omega arith
-
-pub unit-lt : (m r t a : ℕ) → m < 2 ^ 6 → r < 2 ^ 10 → t < 2 ^ 35 → a < 2 ^ 16 → m * 2 ^ 58 + r * 2 ^ 48 + t * 2 ^ 13 + a / 2 ^ 3 < 2 ^ 64
-unit-lt m r t a h k l n = omega arith
 
 pub unit-tail-lt : (a e : ℕ) → a < 2 ^ 16 → e < 2 ^ 16 → a * 2 ^ 21 + e * 2 ^ 5 < 2 ^ 64
 unit-tail-lt a e h k = omega arith

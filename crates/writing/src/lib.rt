@@ -2,7 +2,7 @@
 // is taken, and nothing is remembered from one call to the next.
 ghost use mathlib.Core.Path.{_≡_};
 ghost use mathlib.Core.List.{_++_};
-ghost use Prim.Native.Nat.{_-_, _≤_, _<_};
+ghost use Prim.Native.Nat.{_+_, _-_, _*_, _^_, _≤_, _<_};
 ghost use Rattle.filling.specs.Buffer.{bigEndian};
 ghost use Rattle.writing.specs.Writing.{headerEntry, stateEntry, standardEntry, unitEntry, anyTooWide, Added, Finished};
 ghost use Rattle.writing.specs.Storing.{Stored};
@@ -72,6 +72,14 @@ fn unit_too_wide(module: u64, recipe: u64, time: u64, actual: u64, effective: u6
             || (0x8_0000_0000 <= time || (0x1_0000 <= actual || 0x1_0000 <= effective)))
 }
 
+// The first eight bytes of a standard or of a unit record: its module, its recipe, its start or time, and 13 bits of what follows.
+fn front(module: u64, recipe: u64, time: u64, rest: u64) -> u64
+    requires { ⌜ («module» < 2 ^ 6) × (recipe < 2 ^ 10) × (time < 2 ^ 35) × (rest < 2 ^ 13) ⌝ }
+    ensures { λ r. ⌜ r ≡ «module» * 2 ^ 58 + recipe * 2 ^ 48 + time * 2 ^ 13 + rest ⌝ }
+{
+    module * 0x400_0000_0000_0000 + recipe * 0x1_0000_0000_0000 + time * 0x2000 + rest
+}
+
 // Adds a header.
 pub fn put_header(
     buf: &mut [u8],
@@ -117,12 +125,8 @@ pub fn put_standard(
     if standard_too_wide(module, recipe, start, theoretical) {
         return refused(22, 2);
     }
-    let first = module * 0x400_0000_0000_0000
-        + recipe * 0x1_0000_0000_0000
-        + start * 0x2000
-        + theoretical / 0x4000;
-    let second = theoretical * 4;
-    add(buf, at, 8, first, 2, second)
+    let first = front(module, recipe, start, theoretical / 0x4000);
+    add(buf, at, 8, first, 2, theoretical * 4)
 }
 
 // Adds a unit record.
@@ -140,10 +144,7 @@ pub fn put_unit(
     if unit_too_wide(module, recipe, time, actual, effective) {
         return refused(22, 3);
     }
-    let first = module * 0x400_0000_0000_0000
-        + recipe * 0x1_0000_0000_0000
-        + time * 0x2000
-        + actual / 8;
+    let first = front(module, recipe, time, actual / 8);
     let second = actual * 0x20_0000 + effective * 0x20;
     add(buf, at, 8, first, 3, second)
 }

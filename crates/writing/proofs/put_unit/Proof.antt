@@ -1,12 +1,13 @@
 -- `writing::put_unit` meets its contract: the numbers put have the fields side by side. Assumes nothing.
 use borrow.Author.Needs.{needs}
 use mathlib.Core.Path.{refl, sym, _∙_}
+use native.Mathlib.Omega.{arith}
 use denote.Ref.{now}
 use Rattle.bits.specs.Put.{Fit}
 use Rattle.writing.specs.Writing.{unitEntry}
 use Rattle.writing.proofs.Fitting.{fits}
 use Rattle.writing.proofs.Bytes.{record-bytes}
-use Rattle.writing.proofs.Values.{first-lt, second-lt, unit-lt, unit-tail-lt, unit-first, unit-second}
+use Rattle.writing.proofs.Values.{first-lt, second-lt, unit-tail-lt, unit-first, unit-second}
 use Rattle.writing.proofs.Storing.{not-added, added}
 use Rattle.writing.proofs.put_unit.Statement.{statement}
 use Rattle.writing.proofs.put_unit.Tie as tie
@@ -20,40 +21,26 @@ returns c =
 fit : (c : tie.Else1) → let s = c .before .before .before .args in Fit (unitEntry (s .«module») (s .recipe) (s .time) (s .actual) (s .effective) .slots)
 fit c = let s = c .before .before .before .args in fits (unitEntry (s .«module») (s .recipe) (s .time) (s .actual) (s .effective) .slots) (sym (c .before .unit-too-wide .ensures) ∙ c .if1 .left)
 
-mul-first : tie.Need-mul-first
-mul-first c = let f = fit c in record { fits = first-lt _ _ _ (first-lt _ _ _ (first-lt _ _ _ (unit-lt _ _ _ _ (f .0) (f .1 .0) (f .1 .1 .0) (f .1 .1 .1 .0)))) }
-
-mul-first-2 : tie.Need-mul-first-2
-mul-first-2 c = let f = fit c in record { fits = second-lt _ _ _ (first-lt _ _ _ (first-lt _ _ _ (unit-lt _ _ _ _ (f .0) (f .1 .0) (f .1 .1 .0) (f .1 .1 .1 .0)))) }
-
-add-first : tie.Need-add-first
-add-first c = let f = fit c in record { fits = first-lt _ _ _ (first-lt _ _ _ (unit-lt _ _ _ _ (f .0) (f .1 .0) (f .1 .1 .0) (f .1 .1 .1 .0))) }
-
-mul-first-3 : tie.Need-mul-first-3
-mul-first-3 c = let f = fit c in record { fits = second-lt _ _ _ (first-lt _ _ _ (unit-lt _ _ _ _ (f .0) (f .1 .0) (f .1 .1 .0) (f .1 .1 .1 .0))) }
-
-add-first-2 : tie.Need-add-first-2
-add-first-2 c = let f = fit c in record { fits = first-lt _ _ _ (unit-lt _ _ _ _ (f .0) (f .1 .0) (f .1 .1 .0) (f .1 .1 .1 .0)) }
-
-add-first-3 : tie.Need-add-first-3
-add-first-3 c = let f = fit c in record { fits = unit-lt _ _ _ _ (f .0) (f .1 .0) (f .1 .1 .0) (f .1 .1 .1 .0) }
+front-requires : tie.Need-front-requires
+front-requires c κs = let f = fit c in (f .0, f .1 .0, f .1 .1 .0, omega (arith, f .1 .1 .1 .0))
 
 mul-second : tie.Need-mul-second
-mul-second c = let f = fit c in record { fits = first-lt _ _ _ (unit-tail-lt _ _ (f .1 .1 .1 .0) (f .1 .1 .1 .1 .0)) }
+mul-second c = let f = fit (c .before) in record { fits = first-lt _ _ _ (unit-tail-lt _ _ (f .1 .1 .1 .0) (f .1 .1 .1 .1 .0)) }
 
 mul-second-2 : tie.Need-mul-second-2
-mul-second-2 c = let f = fit c in record { fits = second-lt _ _ _ (unit-tail-lt _ _ (f .1 .1 .1 .0) (f .1 .1 .1 .1 .0)) }
+mul-second-2 c = let f = fit (c .before) in record { fits = second-lt _ _ _ (unit-tail-lt _ _ (f .1 .1 .1 .0) (f .1 .1 .1 .1 .0)) }
 
 add-second : tie.Need-add-second
-add-second c = let f = fit c in record { fits = unit-tail-lt _ _ (f .1 .1 .1 .0) (f .1 .1 .1 .1 .0) }
+add-second c = let f = fit (c .before) in record { fits = unit-tail-lt _ _ (f .1 .1 .1 .0) (f .1 .1 .1 .1 .0) }
 
 returns-2 : tie.Need-returns-2
 returns-2 c =
     let a = c .before .before in
-    let s = a .before .before .before .before .before .args in
+    let w = a .before .before in
+    let s = w .before .before .before .before .args in
     let e = unitEntry (s .«module») (s .recipe) (s .time) (s .actual) (s .effective) in
-    let f = fit (a .before .before) in
-    added e (now (s .buf)) (s .at) _ _ _ f (record-bytes 8 3 (e .slots) _ _ f refl (unit-first _ _ _ _ _ (f .1 .1 .1 .1 .0)) (unit-second (s .«module») (s .recipe) (s .time) _ _)) (a .add .ensures)
+    let f = fit (w .before) in
+    added e (now (s .buf)) (s .at) _ _ _ f (record-bytes 8 3 (e .slots) _ _ f refl (w .front .ensures ∙ unit-first _ _ _ _ _ (f .1 .1 .1 .1 .0)) (unit-second (s .«module») (s .recipe) (s .time) _ _)) (a .add .ensures)
 
 pub put-unit-spec : {M : Type 1} → statement M
 put-unit-spec =
@@ -62,12 +49,7 @@ put-unit-spec =
     (λ c κs. search needs)
     (λ c κs. search needs)
     returns
-    mul-first
-    mul-first-2
-    add-first
-    mul-first-3
-    add-first-2
-    add-first-3
+    front-requires
     mul-second
     mul-second-2
     add-second
