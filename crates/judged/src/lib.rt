@@ -29,11 +29,11 @@ fn count_unit(
     byte: usize,
     entries: &[u64; 512],
     pairs: &[u16; 512],
-    others: &[u16; 512],
+    ahead: &[u16; 512],
     last: &[u16; 1024],
     judged: &mut [u64; 512],
 )
-    requires { ⌜ Listing (standardAt (now log) h) (h .standards) (now entries) (now pairs) (now others) (now last) ⌝ }
+    requires { ⌜ Listing (standardAt (now log) h) (h .standards) (now entries) (now pairs) (now ahead) (now last) ⌝ }
     requires { ⌜ isRising standardKey (upTo (standardAt (now log) h) (h .standards)) ≡ true ⌝ }
     requires { ⌜ JudgedSoFar (upTo (standardAt (now log) h) (h .standards)) (upTo (unitAt (now log) h) i) i (now judged) ⌝ }
     requires { ⌜ (i < 2000) × (byte ≡ 10 + 6 * h .states + 10 * h .standards + 11 * i) × Covers (now log) (byte + 11) ⌝ }
@@ -47,7 +47,7 @@ fn count_unit(
         n,
         entries,
         pairs,
-        others,
+        ahead,
         last,
         u.module,
         u.recipe,
@@ -64,11 +64,11 @@ fn count_units(
     h: Header,
     entries: &[u64; 512],
     pairs: &[u16; 512],
-    others: &[u16; 512],
+    ahead: &[u16; 512],
     last: &[u16; 1024],
     judged: &mut [u64; 512],
 )
-    requires { ⌜ Listing (standardAt (now log) h) (h .standards) (now entries) (now pairs) (now others) (now last) ⌝ }
+    requires { ⌜ Listing (standardAt (now log) h) (h .standards) (now entries) (now pairs) (now ahead) (now last) ⌝ }
     requires { ⌜ isRising standardKey (upTo (standardAt (now log) h) (h .standards)) ≡ true ⌝ }
     requires { ⌜ JudgedSoFar (upTo (standardAt (now log) h) (h .standards)) (upTo (unitAt (now log) h) 0) 0 (now judged) ⌝ }
     requires { ⌜ (h .units ≤ 2000) × Covers (now log) (10 + 6 * h .states + 10 * h .standards + 11 * h .units) ⌝ }
@@ -77,7 +77,7 @@ fn count_units(
     let mut byte = 10 + 6 * h.states + 10 * h.standards;
     let n = h.units;
     for i in 0..n {
-        count_unit(log, h, i, byte, entries, pairs, others, last, judged);
+        count_unit(log, h, i, byte, entries, pairs, ahead, last, judged);
         byte += 11;
     }
 }
@@ -92,8 +92,8 @@ pub fn effective_units(log: &[u8], h: Header, judged: &mut [u64; 512])
 {
     let mut entries = [0u64; 512];
     let mut pairs = [0u16; 512];
-    let mut others = [0u16; 512];
+    let mut ahead = [0u16; 512];
     let mut last = [0u16; 1024];
-    theoretical::list_standards(log, h, &mut entries, &mut pairs, &mut others, &mut last);
-    count_units(log, h, &entries, &pairs, &others, &last, judged);
+    theoretical::list_standards(log, h, &mut entries, &mut pairs, &mut ahead, &mut last);
+    count_units(log, h, &entries, &pairs, &ahead, &last, judged);
 }

@@ -22,13 +22,13 @@ use Rattle.rules.specs.Grounds.{ground, _then_, firstOf}
 use Rattle.rules.specs.RecordGrounds.{isAmong, standardGround, standardGrounds}
 use Rattle.rules.proofs.FirstGround.{then-left, not-met, refused-not, first-none, first-more, first-stop, turn-range}
 use Rattle.rules.proofs.Booleans.{or-true, both, false-true}
-use Rattle.rules.proofs.InForce.{is-for, for-true, decide-for}
+use Rattle.rules.proofs.InForce.{is-for, for-true}
 use Rattle.rules.proofs.Spared.{not-among}
 use Rattle.rules.proofs.Keys.{sequenced-none}
 use Rattle.rules.specs.Sequence.{justBefore, isAfter, standardKey}
 use Rattle.rules.specs.Theoretical.{isFor}
 use Rattle.rules.specs.Keys.{standardNumber, StandardFits, StandardsSequenced}
-use Rattle.theoretical.specs.Listing.{entryOf, pairOf, binOf, isIn, isOther, lastOf, Held, Listing, Added, AllListed}
+use Rattle.theoretical.specs.Listing.{entryOf, pairOf, binOf, isIn, lastOf, Held, Listing, Added, AllListed}
 use Rattle.theoretical.proofs.Walks.{last-own, last-other}
 
 -- the widths of a standard's module, recipe and start
@@ -147,16 +147,12 @@ module _ (at : ℕ → Standard) (n : ℕ) (E P : List ℕ) (held : Held at n E 
     pair-low = omega (arith, held .pairs i h, fits .0, fits .1)
 
     -- its pair is that of the module and the recipe just where it is for them
-    pub pair-own : (m recipe : ℕ) → recipe < 1024 → eqb (getD P i 0) (m * 1024 + recipe) ≡ isFor m recipe (at i)
-    pair-own m recipe low =
-        elim (decide-for m recipe (at i)) [
-          | yes f ↦ eq-eqb (getD P i 0) (m * 1024 + recipe) (omega (arith, held .pairs i h, f .0, f .1)) ∙ sym (is-for m recipe (at i) f)
-          | no ne ↦ go (isFor m recipe (at i)) refl
-        ]
+    pub pair-own : (m recipe : ℕ) → recipe < 1024 → eqb (getD P i 0) (pairOf m recipe) ≡ isFor m recipe (at i)
+    pair-own m recipe low = go (isFor m recipe (at i)) refl
       where
-        go : (b : Bool) → isFor m recipe (at i) ≡ b → eqb (getD P i 0) (m * 1024 + recipe) ≡ b
-        go true e = let f = for-true m recipe (at i) e in eq-eqb (getD P i 0) (m * 1024 + recipe) (omega (arith, held .pairs i h, f .0, f .1))
-        go false e = ne-eqb (getD P i 0) (m * 1024 + recipe) (λ o. false-true (sym e ∙ is-for m recipe (at i) (omega (arith, o, held .pairs i h, fits .1), omega (arith, o, held .pairs i h, fits .1))))
+        go : (b : Bool) → isFor m recipe (at i) ≡ b → eqb (getD P i 0) (pairOf m recipe) ≡ b
+        go true e = let f = for-true m recipe (at i) e in eq-eqb (getD P i 0) (pairOf m recipe) (omega (arith, held .pairs i h, f .0, f .1))
+        go false e = ne-eqb (getD P i 0) (pairOf m recipe) (λ o. false-true (sym e ∙ is-for m recipe (at i) (omega (arith, o, held .pairs i h, fits .1), omega (arith, o, held .pairs i h, fits .1))))
 
     -- it is read back as it was
     pub read-back : at i .theoretical < 2 ^ 27
@@ -170,11 +166,11 @@ module _ (at : ℕ → Standard) (n : ℕ) (E P : List ℕ) (held : Held at n E 
 
 -- ---- one standard listed
 
-pub bin-low : (m recipe : ℕ) → binOf m recipe < 1024
+pub bin-low : (pair : ℕ) → binOf pair < 1024
 unfolding binOf
-bin-low m recipe = omega arith
+bin-low pair = omega arith
 
-module _ (at : ℕ → Standard) (i : ℕ) (E P O L : List ℕ) (listing : Listing at i E P O L) (small : i < 512) (plain : at i .spare ≡ 0) where
+module _ (at : ℕ → Standard) (i : ℕ) (E P A L : List ℕ) (listing : Listing at i E P A L) (small : i < 512) (plain : at i .spare ≡ 0) where
   -- an array with what belongs to i at i
   kept : (X : List ℕ) (f : ℕ → ℕ) → length X ≡ 512 → ((j : ℕ) → j < i → getD X j 0 ≡ f j) → (j : ℕ) → j < i + 1 → getD (set X i (f i)) j 0 ≡ f j
   kept X f len h j l =
@@ -184,21 +180,21 @@ module _ (at : ℕ → Standard) (i : ℕ) (E P O L : List ℕ) (listing : Listi
       ]
 
   abbrev own-bin : ℕ
-  own-bin = binOf (at i .«module») (at i .recipe)
+  own-bin = binOf (pairOf (at i .«module») (at i .recipe))
 
   lasts-more : (bin : ℕ) → bin < 1024 → getD (set L own-bin (i + 1)) bin 0 ≡ lastOf (isIn bin) at (i + 1)
   lasts-more bin h =
       rw (add-one i)
       (elim (ℕ-discrete own-bin bin) [
-        | yes q ↦ rw (last-own (isIn bin) at i (eq-eqb own-bin bin q), ← q) (getD-set-same L own-bin (suc i) 0 (omega (arith, listing .sized .3, bin-low (at i .«module») (at i .recipe))))
+        | yes q ↦ rw (last-own (isIn bin) at i (eq-eqb own-bin bin q), ← q) (getD-set-same L own-bin (suc i) 0 (omega (arith, listing .sized .3, bin-low (pairOf (at i .«module») (at i .recipe)))))
         | no q ↦ rw (last-other (isIn bin) at i (ne-eqb own-bin bin q)) (getD-set-other L own-bin bin (suc i) 0 (λ e. q (sym e)) ∙ listing .lasts bin h)
       ])
 
   pub listed-more : Listing at (i + 1) (set E i (entryOf (at i))) (set P i (pairOf (at i .«module») (at i .recipe)))
-      (set O i (lastOf (isOther (at i .«module») (at i .recipe)) at i)) (set L own-bin (i + 1))
+      (set A i (getD L own-bin 0)) (set L own-bin (i + 1))
   listed-more =
       record {
-        sized = (length-set E _ _ ∙ listing .sized .0, length-set P _ _ ∙ listing .sized .1, length-set O _ _ ∙ listing .sized .2, length-set L _ _ ∙ listing .sized .3);
+        sized = (length-set E _ _ ∙ listing .sized .0, length-set P _ _ ∙ listing .sized .1, length-set A _ _ ∙ listing .sized .2, length-set L _ _ ∙ listing .sized .3);
         held =
             record {
               few = omega arith;
@@ -206,19 +202,19 @@ module _ (at : ℕ → Standard) (i : ℕ) (E P O L : List ℕ) (listing : Listi
               pairs = kept P (λ j. pairOf (at j .«module») (at j .recipe)) (listing .sized .1) (listing .held .pairs);
               plain = λ j l. elim (ℕ-discrete j i) [ yes q ↦ rw q plain | no q ↦ listing .held .plain j (omega (arith, q)) ];
             };
-        others = kept O (λ j. lastOf (isOther (at j .«module») (at j .recipe)) at j) (listing .sized .2) (listing .others);
+        aheads = rw (listing .lasts own-bin (bin-low (pairOf (at i .«module») (at i .recipe)))) (kept A (λ j. lastOf (isIn (binOf (pairOf (at j .«module») (at j .recipe)))) at j) (listing .sized .2) (listing .aheads));
         lasts = lasts-more;
       }
 
 -- empty arrays hold no standard
-pub listing-none : (at : ℕ → Standard) (E P O L : List ℕ) → E ≡ replicate 512 0 → P ≡ replicate 512 0 → O ≡ replicate 512 0 → L ≡ replicate 1024 0 → Listing at 0 E P O L
+pub listing-none : (at : ℕ → Standard) (E P A L : List ℕ) → E ≡ replicate 512 0 → P ≡ replicate 512 0 → A ≡ replicate 512 0 → L ≡ replicate 1024 0 → Listing at 0 E P A L
 unfolding lastOf
-listing-none at E P O L ee ep eo el =
-    rw (ee, ep, eo, el)
+listing-none at E P A L ee ep ea el =
+    rw (ee, ep, ea, el)
     (record {
       sized = (length-replicate {A = ℕ} 512 0, length-replicate {A = ℕ} 512 0, length-replicate {A = ℕ} 512 0, length-replicate {A = ℕ} 1024 0);
       held = record { few = omega arith; entries = λ i h. absurd (omega arith); pairs = λ i h. absurd (omega arith); plain = λ i h. absurd (omega arith) };
-      others = λ i h. absurd (omega arith);
+      aheads = λ i h. absurd (omega arith);
       lasts = λ bin h. getD-replicate {A = ℕ} 1024 bin 0 0 h;
     })
 
@@ -228,34 +224,34 @@ abbrev tests : ℕ → ℕ → (ℕ → Standard) → ℕ → Verdict
 tests period modules at i = standardGround period modules (upTo at i) i (at i)
 
 -- the first i were tested, passed and listed
-pub record ListedTo (period modules : ℕ) (at : ℕ → Standard) (n i before : ℕ) (E P O L : List ℕ) : Type 0 where
+pub record ListedTo (period modules : ℕ) (at : ℕ → Standard) (n i before : ℕ) (E P A L : List ℕ) : Type 0 where
   pub within : i ≤ n
   pub fine : firstOf (tests period modules at) i ≡ Accepted
   pub sequenced : StandardsSequenced (upTo at i) before
-  pub listing : Listing at i E P O L
+  pub listing : Listing at i E P A L
 
 module _ (period modules : ℕ) (at : ℕ → Standard) (n : ℕ) where
-  pub listed-none : (E P O L : List ℕ) → Listing at 0 E P O L → ListedTo period modules at n 0 0 E P O L
+  pub listed-none : (E P A L : List ℕ) → Listing at 0 E P A L → ListedTo period modules at n 0 0 E P A L
   unfolding upTo
-  listed-none E P O L l =
+  listed-none E P A L l =
       record { within = omega arith; fine = first-none (tests period modules at); sequenced = sequenced-none standardKey standardNumber StandardFits (λ s. omega arith); listing = l }
 
-  pub listed-step : (i before : ℕ) (E P O L : List ℕ) → i < n → ListedTo period modules at n i before E P O L → (r : Verdict) (before′ : ℕ) (E′ P′ O′ L′ : List ℕ) → Added period modules at i r before′ E′ P′ O′ L′
-      → r ≡ Accepted → ListedTo period modules at n (i + 1) before′ E′ P′ O′ L′
-  listed-step i before E P O L h l r before′ E′ P′ O′ L′ a e =
+  pub listed-step : (i before : ℕ) (E P A L : List ℕ) → i < n → ListedTo period modules at n i before E P A L → (r : Verdict) (before′ : ℕ) (E′ P′ A′ L′ : List ℕ) → Added period modules at i r before′ E′ P′ A′ L′
+      → r ≡ Accepted → ListedTo period modules at n (i + 1) before′ E′ P′ A′ L′
+  listed-step i before E P A L h l r before′ E′ P′ A′ L′ a e =
       record { within = omega arith; fine = first-more (tests period modules at) i (l .fine) (sym (a .answer) ∙ e); sequenced = a .sequenced e; listing = a .listing e }
 
-  pub listed-stop : (i before : ℕ) (E P O L : List ℕ) → i < n → ListedTo period modules at n i before E P O L → (r : Verdict) (before′ : ℕ) (E′ P′ O′ L′ : List ℕ) → Added period modules at i r before′ E′ P′ O′ L′
-      → (x : Refusal) → r ≡ Refused x → AllListed period modules at n r E′ P′ O′ L′
+  pub listed-stop : (i before : ℕ) (E P A L : List ℕ) → i < n → ListedTo period modules at n i before E P A L → (r : Verdict) (before′ : ℕ) (E′ P′ A′ L′ : List ℕ) → Added period modules at i r before′ E′ P′ A′ L′
+      → (x : Refusal) → r ≡ Refused x → AllListed period modules at n r E′ P′ A′ L′
   unfolding standardGrounds
-  listed-stop i before E P O L h l r before′ E′ P′ O′ L′ a x e =
+  listed-stop i before E P A L h l r before′ E′ P′ A′ L′ a x e =
       record {
         answer = e ∙ sym (turn-range (standardGround period modules) at n ∙ first-stop (tests period modules at) n i x h (l .fine) (sym (a .answer) ∙ e));
         listing = λ f. absurd (refused-not (sym e ∙ f));
       }
 
-  pub listed-all : (i before : ℕ) (E P O L : List ℕ) → n ≤ i → ListedTo period modules at n i before E P O L → AllListed period modules at n Accepted E P O L
+  pub listed-all : (i before : ℕ) (E P A L : List ℕ) → n ≤ i → ListedTo period modules at n i before E P A L → AllListed period modules at n Accepted E P A L
   unfolding standardGrounds
-  listed-all i before E P O L h l =
+  listed-all i before E P A L h l =
       let q : i ≡ n = omega (arith, l .within) in
       record { answer = sym (turn-range (standardGround period modules) at n ∙ rw q at (l .fine)); listing = λ e. rw q at (l .listing) }

@@ -1,7 +1,7 @@
 -- Where the last standard for a module and a recipe is, and the walk from there towards the front of the list, turn by turn: what is passed over is not the answer.
 -- Assumes nothing.
 use mathlib.Core.Path.{_≡_, refl, sym, ap, ap₂, _∙_}
-use mathlib.Core.Bool.{Bool, true, false, not, cond}
+use mathlib.Core.Bool.{Bool, true, false, cond}
 use mathlib.Core.Option.{Option, none, some}
 use Prim.Native.Nat.{ℕ, zero, suc, _≤_, _<_}
 use native.Mathlib.Omega.{arith}
@@ -10,11 +10,11 @@ use Rattle.records.specs.declared.Standard.{Standard}
 use Rattle.records.specs.Log.{upTo}
 use Rattle.rules.specs.declared.Placed.{Placed}
 use Rattle.rules.specs.Theoretical.{placed, placedFrom, isFor, hasBegun, For, lastWhere, lastInForce}
-use Rattle.rules.proofs.Booleans.{both-true, right-false, false-true, both}
+use Rattle.rules.proofs.Booleans.{false-true}
 use Rattle.rules.proofs.InForce.{is-for, for-true, decide-for, not-for, not-begun, begun}
 use Rattle.rules.proofs.LastInForce.{last-force-more}
 use Rattle.theoretical.specs.declared.Lookup.the-variants.{Found, Nothing}
-use Rattle.theoretical.specs.Listing.{binOf, isIn, isOther, lastOf, lookupOf}
+use Rattle.theoretical.specs.Listing.{pairOf, binOf, isIn, lastOf, lookupOf}
 
 -- ---- what the lookup answered
 
@@ -74,7 +74,7 @@ module _ (at : ℕ → Standard) (m recipe : ℕ) where
   own = isFor m recipe
 
   abbrev bin : ℕ
-  bin = binOf m recipe
+  bin = binOf (pairOf m recipe)
 
   -- ---- from bin to standard
 
@@ -85,7 +85,7 @@ module _ (at : ℕ → Standard) (m recipe : ℕ) where
     pub binned : (i : ℕ) → from ≡ suc i → isIn bin (at i) ≡ true
 
   own-in : (s : Standard) → own s ≡ true → isIn bin s ≡ true
-  own-in s e = let f = for-true m recipe s e in eq-eqb (binOf (s .«module») (s .recipe)) bin (ap₂ binOf (f .0) (f .1))
+  own-in s e = let f = for-true m recipe s e in eq-eqb (binOf (pairOf (s .«module») (s .recipe))) bin (ap binOf (ap₂ pairOf (f .0) (f .1)))
 
   pub from-the-bin : (n from : ℕ) → from ≡ lastOf (isIn bin) at n → Seeking n from
   from-the-bin n from e =
@@ -98,55 +98,13 @@ module _ (at : ℕ → Standard) (m recipe : ℕ) where
   unfolding lastOf
   nothing-sought n from e s = sym (s .same ∙ ap (lastOf own at) e)
 
-  -- another's standard in the bin: the one sought is ahead of that other's
-  module _ (n i : ℕ) (s : Seeking n (suc i)) (e : own (at i) ≡ false) where
-    abbrev theirs : Standard → Bool
-    theirs = isOther (at i .«module») (at i .recipe)
-
-    shared : binOf (at i .«module») (at i .recipe) ≡ bin
-    shared = eqb-true (binOf (at i .«module») (at i .recipe)) bin (s .binned i refl)
-
-    own-theirs : (t : Standard) → own t ≡ true → theirs t ≡ true
-    own-theirs t o =
-        both-true (isIn (binOf (at i .«module») (at i .recipe)) t) (not (isFor (at i .«module») (at i .recipe) t))
-        (rw shared (own-in t o)) (go (isFor (at i .«module») (at i .recipe) t) refl)
-      where
-        go : (b : Bool) → isFor (at i .«module») (at i .recipe) t ≡ b → not b ≡ true
-        go true q =
-            let f = for-true m recipe t o in
-            let g = for-true (at i .«module») (at i .recipe) t q in
-            absurd (false-true (sym e ∙ is-for m recipe (at i) (sym (g .0) ∙ f .0, sym (g .1) ∙ f .1)))
-        go false q = refl
-
-    pub further : (from : ℕ) → from ≡ lastOf theirs at i → Seeking n from
-    further from q =
-        record {
-          within = omega (arith, q, last-le theirs at i, s .within);
-          same = s .same ∙ last-other own at i e ∙ rw q (narrower theirs own at own-theirs i);
-          binned = λ k o. rw (← shared) (both (isIn (binOf (at i .«module») (at i .recipe)) (at k)) (not (isFor (at i .«module») (at i .recipe) (at k))) (last-is theirs at i k (sym q ∙ o)) .0);
-        }
-
-  -- ---- the last of the bin that is another's
-
-  module _ (n from : ℕ) (e : from ≡ lastOf (isIn bin) at n) where
-    other-same : lastOf (isOther m recipe) at n ≡ lastOf (isOther m recipe) at from
-    other-same = rw e (narrower (isIn bin) (isOther m recipe) at (λ s o. both (isIn bin s) (not (isFor m recipe s)) o .0) n)
-
-    pub other-none : from ≡ 0 → 0 ≡ lastOf (isOther m recipe) at n
-    unfolding lastOf
-    other-none z = sym (other-same ∙ ap (lastOf (isOther m recipe) at) z)
-
-    module _ (k : ℕ) (one : from ≡ suc k) where
-      pub other-behind : own (at k) ≡ true → lastOf (isOther (at k .«module») (at k .recipe)) at k ≡ lastOf (isOther m recipe) at n
-      other-behind o =
-          let f = for-true m recipe (at k) o in
-          let not-theirs : isOther m recipe (at k) ≡ false = right-false (isIn bin (at k)) (not (own (at k))) (ap not o) in
-          ap₂ (λ (a b : ℕ). lastOf (isOther a b) at k) (f .0) (f .1) ∙ sym (other-same ∙ ap (lastOf (isOther m recipe) at) one ∙ last-other (isOther m recipe) at k not-theirs)
-
-      pub other-last : own (at k) ≡ false → from ≡ lastOf (isOther m recipe) at n
-      other-last o =
-          let theirs : isOther m recipe (at k) ≡ true = both-true (isIn bin (at k)) (not (own (at k))) (last-is (isIn bin) at n k (sym e ∙ one)) (ap not o) in
-          one ∙ sym (other-same ∙ ap (lastOf (isOther m recipe) at) one ∙ last-own (isOther m recipe) at k theirs)
+  -- another's standard in the bin: the one sought is ahead of it
+  pub further : (n i from : ℕ) → Seeking n (suc i) → own (at i) ≡ false → from ≡ lastOf (isIn (binOf (pairOf (at i .«module») (at i .recipe)))) at i → Seeking n from
+  further n i from s e q =
+      let shared : binOf (pairOf (at i .«module») (at i .recipe)) ≡ bin = eqb-true (binOf (pairOf (at i .«module») (at i .recipe))) bin (s .binned i refl) in
+      let p : from ≡ lastOf (isIn bin) at i = q ∙ ap (λ (b : ℕ). lastOf (isIn b) at i) shared in
+      let next = from-the-bin i from p in
+      record { within = omega (arith, next .within, s .within); same = s .same ∙ last-other own at i e ∙ next .same; binned = next .binned }
 
   module _ (time : ℕ) where
     -- ---- a turn of the walk

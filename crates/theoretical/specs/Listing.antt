@@ -1,11 +1,11 @@
 -- What the working arrays hold of the first n standards: an entry of each, E, its module and recipe, P, for each bin where its last standard is, L, and for each
--- standard where the last one before it is that has its bin and another module or recipe, O.
+-- standard where the last one ahead of it in its bin is, A.
 -- Definitions only.
 use mathlib.Core.Path.{_≡_}
-use mathlib.Core.Bool.{Bool, _&&_, not, cond}
+use mathlib.Core.Bool.{Bool, cond}
 use mathlib.Core.List.{List}
 use mathlib.Core.Option.{Option, none, some}
-use Prim.Native.Nat.{ℕ, zero, suc, _+_, _*_, _%_, _^_, _≤_, _<_}
+use Prim.Native.Nat.{ℕ, zero, suc, _+_, _*_, _/_, _%_, _^_, _≤_, _<_}
 use lib.Dec.{eqb}
 use lib.ListN.{length, getD}
 use Rattle.records.specs.declared.Standard.{Standard}
@@ -14,7 +14,6 @@ use Rattle.rules.specs.declared.Placed.{Placed}
 use Rattle.rules.specs.declared.Verdict.{Verdict}
 use Rattle.rules.specs.declared.Verdict.the-variants.{Accepted}
 use Rattle.rules.specs.Keys.{StandardsSequenced}
-use Rattle.rules.specs.Theoretical.{isFor}
 use Rattle.rules.specs.RecordGrounds.{standardGround, standardGrounds}
 use Rattle.theoretical.specs.declared.Lookup.{Lookup}
 use Rattle.theoretical.specs.declared.Lookup.the-variants.{Found, Nothing}
@@ -27,17 +26,13 @@ entryOf s = s .start * 2 ^ 27 + s .theoretical
 abbrev pub pairOf : ℕ → ℕ → ℕ
 pairOf m recipe = m * 1024 + recipe
 
--- the bin of a module and a recipe, one of 1,024. Some share one, and what is looked up does not depend on which: with this factor hardly any do, where each
--- of some modules has the recipes 0, 1, .. , whichever of the two are many
-unfoldable pub binOf : ℕ → ℕ → ℕ
-binOf m recipe = (283 * m + recipe) % 1024
+-- the bin of a module and a recipe, one of 1,024. Some share one, and what is looked up does not depend on which: by these factors hardly any do, where each of
+-- some modules has the recipes 0, 1, .. , whichever of the two are many
+unfoldable pub binOf : ℕ → ℕ
+binOf pair = pair * 83 / 64 % 1024
 
 abbrev pub isIn : ℕ → Standard → Bool
-isIn bin s = eqb (binOf (s .«module») (s .recipe)) bin
-
--- a standard shares a bin with a module and recipe, and is not for them
-abbrev pub isOther : ℕ → ℕ → Standard → Bool
-isOther m recipe s = isIn (binOf m recipe) s && not (isFor m recipe s)
+isIn bin s = eqb (binOf (pairOf (s .«module») (s .recipe))) bin
 
 -- one more than the index of the last of the first n standards that passes a test, and 0 where none does
 unfoldable pub lastOf : (Standard → Bool) → (ℕ → Standard) → ℕ → ℕ
@@ -52,22 +47,22 @@ pub record Held (at : ℕ → Standard) (n : ℕ) (E P : List ℕ) : Type 0 wher
   pub plain : (i : ℕ) → i < n → at i .spare ≡ 0
 
 -- and where to look for it
-pub record Listing (at : ℕ → Standard) (n : ℕ) (E P O L : List ℕ) : Type 0 where
-  pub sized : (length E ≡ 512) × (length P ≡ 512) × (length O ≡ 512) × (length L ≡ 1024)
+pub record Listing (at : ℕ → Standard) (n : ℕ) (E P A L : List ℕ) : Type 0 where
+  pub sized : (length E ≡ 512) × (length P ≡ 512) × (length A ≡ 512) × (length L ≡ 1024)
   pub held : Held at n E P
-  pub others : (i : ℕ) → i < n → getD O i 0 ≡ lastOf (isOther (at i .«module») (at i .recipe)) at i
+  pub aheads : (i : ℕ) → i < n → getD A i 0 ≡ lastOf (isIn (binOf (pairOf (at i .«module») (at i .recipe)))) at i
   pub lasts : (bin : ℕ) → bin < 1024 → getD L bin 0 ≡ lastOf (isIn bin) at n
 
 -- standard i tested, and listed where it passes
-pub record Added (period modules : ℕ) (at : ℕ → Standard) (i : ℕ) (r : Verdict) (before : ℕ) (E P O L : List ℕ) : Type 0 where
+pub record Added (period modules : ℕ) (at : ℕ → Standard) (i : ℕ) (r : Verdict) (before : ℕ) (E P A L : List ℕ) : Type 0 where
   pub answer : r ≡ standardGround period modules (upTo at i) i (at i)
   pub sequenced : r ≡ Accepted → StandardsSequenced (upTo at (i + 1)) before
-  pub listing : r ≡ Accepted → Listing at (i + 1) E P O L
+  pub listing : r ≡ Accepted → Listing at (i + 1) E P A L
 
 -- all n standards tested and listed
-pub record AllListed (period modules : ℕ) (at : ℕ → Standard) (n : ℕ) (r : Verdict) (E P O L : List ℕ) : Type 0 where
+pub record AllListed (period modules : ℕ) (at : ℕ → Standard) (n : ℕ) (r : Verdict) (E P A L : List ℕ) : Type 0 where
   pub answer : r ≡ standardGrounds period modules (upTo at n)
-  pub listing : r ≡ Accepted → Listing at n E P O L
+  pub listing : r ≡ Accepted → Listing at n E P A L
 
 -- a standard, or none, as the lookup answers it
 abbrev pub lookupOf : Option Placed → Lookup

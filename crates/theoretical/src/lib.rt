@@ -10,7 +10,7 @@ ghost use Rattle.rules.specs.Theoretical.{placed, isFor, hasBegun, lastInForce}
 ghost use Rattle.rules.specs.Sequence.{isRising, standardKey};
 ghost use Rattle.rules.specs.Keys.{standardNumber, StandardFits, StandardsSequenced, unitNumber, UnitFits, UnitsSequenced};
 ghost use Rattle.rules.specs.RecordGrounds.{isAmong, standardGround};
-ghost use Rattle.theoretical.specs.Listing.{binOf, isOther, lastOf, Held, Listing, Added, AllListed, lookupOf};
+ghost use Rattle.theoretical.specs.Listing.{pairOf, binOf, lastOf, Held, Listing, Added, AllListed, lookupOf};
 ghost use Rattle.theoretical.specs.Credits.{ownGrounds, SumsSoFar, OneUnit, AllUnits, Units};
 use records::Header;
 use records::Standard;
@@ -52,6 +52,14 @@ fn starts_by(
     entries[i] < (time + 1) * 0x800_0000
 }
 
+// A module and a recipe in one number.
+fn pair_of(module: usize, recipe: usize) -> u16
+    requires { ⌜ («module» < 64) × (recipe < 1024) ⌝ }
+    ensures { λ r. ⌜ r ≡ pairOf «module» recipe ⌝ }
+{
+    (module * 1024 + recipe) as u16
+}
+
 // Whether standard i is for the module and the recipe.
 fn is_for(
     log: &[u8],
@@ -67,7 +75,7 @@ fn is_for(
     requires { ⌜ (i < n) × («module» < 64) × (recipe < 1024) ⌝ }
     ensures { λ r. ⌜ r ≡ isFor «module» recipe (standardAt (now (log .entry)) h i) ⌝ }
 {
-    pairs[i] as usize == module * 1024 + recipe
+    pairs[i] == pair_of(module, recipe)
 }
 
 // Whether standard i is for the module and the recipe and starts at or before the time.
@@ -147,37 +155,36 @@ fn walk_back(
 }
 
 // The bin of a module and a recipe.
-fn bin_of(module: usize, recipe: usize) -> usize
-    requires { ⌜ («module» < 64) × (recipe < 1024) ⌝ }
-    ensures { λ r. ⌜ r ≡ binOf «module» recipe ⌝ }
+fn bin_of(pair: u16) -> usize
+    ensures { λ r. ⌜ r ≡ binOf pair ⌝ }
 {
-    (283 * module + recipe) % 1024
+    pair as usize * 83 / 64 % 1024
 }
 
 // Where the last standard for the module and the recipe is: one more than its index, and 0 where there is none. The last one of their bin may be another's; then
-// it is the last one ahead of that other's, and so on.
+// it is the next one ahead of that in the bin, and so on.
 fn last_for(
     log: &[u8],
     h: Header,
     n: usize,
     entries: &[u64; 512],
     pairs: &[u16; 512],
-    others: &[u16; 512],
+    ahead: &[u16; 512],
     last: &[u16; 1024],
     module: usize,
     recipe: usize,
 ) -> usize
-    requires { ⌜ Listing (standardAt (now log) h) n (now entries) (now pairs) (now others) (now last) ⌝ }
+    requires { ⌜ Listing (standardAt (now log) h) n (now entries) (now pairs) (now ahead) (now last) ⌝ }
     requires { ⌜ («module» < 64) × (recipe < 1024) ⌝ }
     ensures { λ r. ⌜ r ≡ lastOf (isFor «module» recipe) (standardAt (now (log .entry)) h) n ⌝ }
 {
-    let mut from = last[bin_of(module, recipe)] as usize;
+    let mut from = last[bin_of(pair_of(module, recipe))] as usize;
     while from != 0 {
         let i = from - 1;
         if is_for(log, h, n, entries, pairs, i, module, recipe) {
             return from;
         }
-        from = others[i] as usize;
+        from = ahead[i] as usize;
     }
     0
 }
@@ -190,17 +197,17 @@ pub fn look_up(
     n: usize,
     entries: &[u64; 512],
     pairs: &[u16; 512],
-    others: &[u16; 512],
+    ahead: &[u16; 512],
     last: &[u16; 1024],
     module: usize,
     recipe: usize,
     time: u64,
 ) -> Lookup
-    requires { ⌜ Listing (standardAt (now log) h) n (now entries) (now pairs) (now others) (now last) ⌝ }
+    requires { ⌜ Listing (standardAt (now log) h) n (now entries) (now pairs) (now ahead) (now last) ⌝ }
     requires { ⌜ («module» < 64) × (recipe < 1024) × (time < 2 ^ 35) ⌝ }
     ensures { λ r. ⌜ r ≡ lookupOf (lastInForce (upTo (standardAt (now (log .entry)) h) n) «module» recipe time) ⌝ }
 {
-    let from = last_for(log, h, n, entries, pairs, others, last, module, recipe);
+    let from = last_for(log, h, n, entries, pairs, ahead, last, module, recipe);
     if from == 0 {
         return Lookup::Nothing;
     }
@@ -216,7 +223,7 @@ fn standard_number(s: Standard) -> u64
     requires { ⌜ StandardFits s ⌝ }
     ensures { λ n. ⌜ n ≡ standardNumber s ⌝ }
 {
-    ((s.module * 1024 + s.recipe) as u64 + 1) * 0x8_0000_0000 + s.start
+    (pair_of(s.module, s.recipe) as u64 + 1) * 0x8_0000_0000 + s.start
 }
 
 // Whether one of the first n standards has this module, this recipe and this start.
@@ -263,32 +270,6 @@ fn test_standard(log: &[u8], h: Header, i: usize, before: u64, s: Standard) -> V
     Verdict::Accepted
 }
 
-// Of the first i standards, where the last one is that has the bin of this one and is not for its module and recipe.
-fn last_other(
-    log: &[u8],
-    h: Header,
-    i: usize,
-    entries: &[u64; 512],
-    pairs: &[u16; 512],
-    others: &[u16; 512],
-    last: &[u16; 1024],
-    module: usize,
-    recipe: usize,
-) -> usize
-    requires { ⌜ Listing (standardAt (now log) h) i (now entries) (now pairs) (now others) (now last) ⌝ }
-    requires { ⌜ («module» < 64) × (recipe < 1024) ⌝ }
-    ensures { λ r. ⌜ r ≡ lastOf (isOther «module» recipe) (standardAt (now (log .entry)) h) i ⌝ }
-{
-    let from = last[bin_of(module, recipe)] as usize;
-    if from == 0 {
-        return 0;
-    }
-    if is_for(log, h, i, entries, pairs, from - 1, module, recipe) {
-        return others[from - 1] as usize;
-    }
-    from
-}
-
 // Standard i put into the arrays: it is the last one of its bin.
 fn store_standard(
     log: &[u8],
@@ -296,20 +277,20 @@ fn store_standard(
     i: usize,
     entries: &mut [u64; 512],
     pairs: &mut [u16; 512],
-    others: &mut [u16; 512],
+    ahead: &mut [u16; 512],
     last: &mut [u16; 1024],
     s: Standard,
 )
-    requires { ⌜ Listing (standardAt (now log) h) i (now entries) (now pairs) (now others) (now last) ⌝ }
+    requires { ⌜ Listing (standardAt (now log) h) i (now entries) (now pairs) (now ahead) (now last) ⌝ }
     requires { ⌜ (s ≡ standardAt (now log) h i) × (s .spare ≡ 0) × (i < 512) ⌝ }
-    ensures { λ r. ⌜ Listing (standardAt (now (log .entry)) h) (i + 1) (now (entries .exit)) (now (pairs .exit)) (now (others .exit)) (now (last .exit)) ⌝ }
+    ensures { λ r. ⌜ Listing (standardAt (now (log .entry)) h) (i + 1) (now (entries .exit)) (now (pairs .exit)) (now (ahead .exit)) (now (last .exit)) ⌝ }
 {
-    let module = s.module;
-    let recipe = s.recipe;
-    others[i] = last_other(log, h, i, entries, pairs, others, last, module, recipe) as u16;
+    let pair = pair_of(s.module, s.recipe);
+    let bin = bin_of(pair);
+    ahead[i] = last[bin];
     entries[i] = s.start * 0x800_0000 + s.theoretical;
-    pairs[i] = (module * 1024 + recipe) as u16;
-    last[bin_of(module, recipe)] = (i + 1) as u16;
+    pairs[i] = pair;
+    last[bin] = (i + 1) as u16;
 }
 
 // Standard i tested, and listed where it passes.
@@ -320,13 +301,13 @@ fn list_standard(
     before: &mut u64,
     entries: &mut [u64; 512],
     pairs: &mut [u16; 512],
-    others: &mut [u16; 512],
+    ahead: &mut [u16; 512],
     last: &mut [u16; 1024],
 ) -> Verdict
     requires { ⌜ StandardsSequenced (upTo (standardAt (now log) h) i) (now before) ⌝ }
-    requires { ⌜ Listing (standardAt (now log) h) i (now entries) (now pairs) (now others) (now last) ⌝ }
+    requires { ⌜ Listing (standardAt (now log) h) i (now entries) (now pairs) (now ahead) (now last) ⌝ }
     requires { ⌜ (i < 512) × Covers (now log) (10 + 6 * h .states + 10 * i + 10) ⌝ }
-    ensures { λ r. ⌜ Added (h .period) (h .modules) (standardAt (now (log .entry)) h) i r (now (before .exit)) (now (entries .exit)) (now (pairs .exit)) (now (others .exit)) (now (last .exit)) ⌝ }
+    ensures { λ r. ⌜ Added (h .period) (h .modules) (standardAt (now (log .entry)) h) i r (now (before .exit)) (now (entries .exit)) (now (pairs .exit)) (now (ahead .exit)) (now (last .exit)) ⌝ }
 {
     let s = records::standard_within(log, h, i);
     let verdict = test_standard(log, h, i, *before, s);
@@ -334,7 +315,7 @@ fn list_standard(
         return verdict;
     }
     *before = standard_number(s);
-    store_standard(log, h, i, entries, pairs, others, last, s);
+    store_standard(log, h, i, entries, pairs, ahead, last, s);
     Verdict::Accepted
 }
 
@@ -344,17 +325,17 @@ pub fn list_standards(
     h: Header,
     entries: &mut [u64; 512],
     pairs: &mut [u16; 512],
-    others: &mut [u16; 512],
+    ahead: &mut [u16; 512],
     last: &mut [u16; 1024],
 ) -> Verdict
     requires { ⌜ (h .standards ≤ 512) × Covers (now log) (10 + 6 * h .states + 10 * h .standards) ⌝ }
-    requires { ⌜ Listing (standardAt (now log) h) 0 (now entries) (now pairs) (now others) (now last) ⌝ }
-    ensures { λ r. ⌜ AllListed (h .period) (h .modules) (standardAt (now (log .entry)) h) (h .standards) r (now (entries .exit)) (now (pairs .exit)) (now (others .exit)) (now (last .exit)) ⌝ }
+    requires { ⌜ Listing (standardAt (now log) h) 0 (now entries) (now pairs) (now ahead) (now last) ⌝ }
+    ensures { λ r. ⌜ AllListed (h .period) (h .modules) (standardAt (now (log .entry)) h) (h .standards) r (now (entries .exit)) (now (pairs .exit)) (now (ahead .exit)) (now (last .exit)) ⌝ }
 {
     let mut before = 0;
     let n = h.standards;
     for i in 0..n {
-        let verdict = list_standard(log, h, i, &mut before, entries, pairs, others, last);
+        let verdict = list_standard(log, h, i, &mut before, entries, pairs, ahead, last);
         if let Verdict::Refused(_) = verdict {
             return verdict;
         }
@@ -406,13 +387,13 @@ fn credit_unit(
     byte: usize,
     entries: &[u64; 512],
     pairs: &[u16; 512],
-    others: &[u16; 512],
+    ahead: &[u16; 512],
     last: &[u16; 1024],
     before: &mut u64,
     actual: &mut [u64; 64],
     effective: &mut [u64; 64],
 ) -> Verdict
-    requires { ⌜ Listing (standardAt (now log) h) (h .standards) (now entries) (now pairs) (now others) (now last) ⌝ }
+    requires { ⌜ Listing (standardAt (now log) h) (h .standards) (now entries) (now pairs) (now ahead) (now last) ⌝ }
     requires { ⌜ isRising standardKey (upTo (standardAt (now log) h) (h .standards)) ≡ true ⌝ }
     requires { ⌜ UnitsSequenced (upTo (unitAt (now log) h) i) (now before) ⌝ }
     requires { ⌜ SumsSoFar (upTo (standardAt (now log) h) (h .standards)) (upTo (unitAt (now log) h) i) i (now actual) (now effective) ⌝ }
@@ -431,7 +412,7 @@ fn credit_unit(
         n,
         entries,
         pairs,
-        others,
+        ahead,
         last,
         u.module,
         u.recipe,
@@ -456,12 +437,12 @@ fn credit_listed(
     h: Header,
     entries: &[u64; 512],
     pairs: &[u16; 512],
-    others: &[u16; 512],
+    ahead: &[u16; 512],
     last: &[u16; 1024],
     actual: &mut [u64; 64],
     effective: &mut [u64; 64],
 ) -> Verdict
-    requires { ⌜ Listing (standardAt (now log) h) (h .standards) (now entries) (now pairs) (now others) (now last) ⌝ }
+    requires { ⌜ Listing (standardAt (now log) h) (h .standards) (now entries) (now pairs) (now ahead) (now last) ⌝ }
     requires { ⌜ isRising standardKey (upTo (standardAt (now log) h) (h .standards)) ≡ true ⌝ }
     requires { ⌜ SumsSoFar (upTo (standardAt (now log) h) (h .standards)) (upTo (unitAt (now log) h) 0) 0 (now actual) (now effective) ⌝ }
     requires { ⌜ (h .units ≤ 2000) × Covers (now log) (10 + 6 * h .states + 10 * h .standards + 11 * h .units) ⌝ }
@@ -478,7 +459,7 @@ fn credit_listed(
             byte,
             entries,
             pairs,
-            others,
+            ahead,
             last,
             &mut before,
             actual,
@@ -506,11 +487,11 @@ pub fn credit_units(
 {
     let mut entries = [0u64; 512];
     let mut pairs = [0u16; 512];
-    let mut others = [0u16; 512];
+    let mut ahead = [0u16; 512];
     let mut last = [0u16; 1024];
-    let verdict = list_standards(log, h, &mut entries, &mut pairs, &mut others, &mut last);
+    let verdict = list_standards(log, h, &mut entries, &mut pairs, &mut ahead, &mut last);
     if let Verdict::Refused(_) = verdict {
         return verdict;
     }
-    credit_listed(log, h, &entries, &pairs, &others, &last, actual, effective)
+    credit_listed(log, h, &entries, &pairs, &ahead, &last, actual, effective)
 }

@@ -10,4 +10,4 @@ unfolding binOf
 returns c = refl
 
 pub bin-of-spec : {M : Type 1} → statement M
-bin-of-spec = tie.close (tie.spec (λ c. search needs) (λ c. search needs) returns)
+bin-of-spec = tie.close (tie.spec (λ c. search needs) returns)

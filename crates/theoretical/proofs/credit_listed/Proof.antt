@@ -10,13 +10,13 @@ use Rattle.theoretical.proofs.credit_listed.Statement.{statement}
 use Rattle.theoretical.proofs.credit_listed.Tie as tie
 
 abbrev Inv-loop : tie.InvT-loop
-Inv-loop log h entries pairs others last actual₀ effective₀ before₀ byte₀ n i₀ actual effective before byte i =
+Inv-loop log h entries pairs ahead last actual₀ effective₀ before₀ byte₀ n i₀ actual effective before byte i =
     (n ≡ h .units)
     × (byte ≡ 10 + 6 * h .states + 10 * h .standards + 11 * i)
     × CreditedTo (h .period) (h .modules) (upTo (standardAt log h) (h .standards)) (unitAt log h) n i before actual effective
 
 abbrev μ-loop : tie.MeasureT-loop
-μ-loop log h entries pairs others last actual₀ effective₀ before₀ byte₀ n i₀ actual effective before byte i = n - i
+μ-loop log h entries pairs ahead last actual₀ effective₀ before₀ byte₀ n i₀ actual effective before byte i = n - i
 
 loop-holds : tie.Need-loop-holds Inv-loop μ-loop
 loop-holds c =

@@ -10,16 +10,16 @@ use Rattle.theoretical.proofs.list_standards.Statement.{statement}
 use Rattle.theoretical.proofs.list_standards.Tie as tie
 
 abbrev Inv-loop : tie.InvT-loop
-Inv-loop log h entries₀ pairs₀ others₀ last₀ before₀ n i₀ entries pairs others last before i = (n ≡ h .standards) × ListedTo (h .period) (h .modules) (standardAt log h) n i before entries pairs others last
+Inv-loop log h entries₀ pairs₀ ahead₀ last₀ before₀ n i₀ entries pairs ahead last before i = (n ≡ h .standards) × ListedTo (h .period) (h .modules) (standardAt log h) n i before entries pairs ahead last
 
 abbrev μ-loop : tie.MeasureT-loop
-μ-loop log h entries₀ pairs₀ others₀ last₀ before₀ n i₀ entries pairs others last before i = n - i
+μ-loop log h entries₀ pairs₀ ahead₀ last₀ before₀ n i₀ entries pairs ahead last before i = n - i
 
 loop-holds : tie.Need-loop-holds Inv-loop μ-loop
 loop-holds c =
     let s = c .before in
     let a = s .args in
-    (refl, listed-none (a .h .period) (a .h .modules) (standardAt (a .log .now) (a .h)) (a .h .standards) (a .entries .now) (a .pairs .now) (a .others .now) (a .last .now) (s .pre .1))
+    (refl, listed-none (a .h .period) (a .h .modules) (standardAt (a .log .now) (a .h)) (a .h .standards) (a .entries .now) (a .pairs .now) (a .ahead .now) (a .last .now) (s .pre .1))
 
 list-standard-requires : tie.Need-list-standard-requires Inv-loop μ-loop
 list-standard-requires c κs =
@@ -33,7 +33,7 @@ returns c =
     let a = c .before .before .before .before .before .before .before .before .before .before .before .args in
     let l = c .before .before .before .before .before .before .before .before .before .loop in
     let r = c .before .before .list-standard in
-    listed-stop (a .h .period) (a .h .modules) (standardAt (a .log .now) (a .h)) (a .h .standards) (l .i) (l .before) (l .entries) (l .pairs) (l .others) (l .last) (c .before .before .before .before .before .before .before .before .loop-test .taken) (l .inv .1)
+    listed-stop (a .h .period) (a .h .modules) (standardAt (a .log .now) (a .h)) (a .h .standards) (l .i) (l .before) (l .entries) (l .pairs) (l .ahead) (l .last) (c .before .before .before .before .before .before .before .before .loop-test .taken) (l .inv .1)
     (r .result) (r .last .1 .1 .1 .0) (r .last .1 .1 .1 .1 .0) (r .last .1 .1 .1 .1 .1 .0) (r .last .1 .1 .1 .1 .1 .1 .0) (r .last .1 .1 .1 .1 .1 .1 .1 .0) (r .ensures) _ (c .enum-told .given .1)
 
 loop-again : tie.Need-loop-again Inv-loop μ-loop
@@ -42,7 +42,7 @@ loop-again c =
     let l = c .before .before .before .before .before .before .before .before .before .loop in
     let r = c .before .before .list-standard in (
       refl,
-      listed-step (a .h .period) (a .h .modules) (standardAt (a .log .now) (a .h)) (a .h .standards) (l .i) (l .before) (l .entries) (l .pairs) (l .others) (l .last) (c .before .before .before .before .before .before .before .before .loop-test .taken) (l .inv .1)
+      listed-step (a .h .period) (a .h .modules) (standardAt (a .log .now) (a .h)) (a .h .standards) (l .i) (l .before) (l .entries) (l .pairs) (l .ahead) (l .last) (c .before .before .before .before .before .before .before .before .loop-test .taken) (l .inv .1)
           (r .result) (r .last .1 .1 .1 .0) (r .last .1 .1 .1 .1 .0) (r .last .1 .1 .1 .1 .1 .0) (r .last .1 .1 .1 .1 .1 .1 .0) (r .last .1 .1 .1 .1 .1 .1 .1 .0) (r .ensures) (c .enum-told2 .given .1),
     )
 
@@ -50,7 +50,7 @@ returns-2 : tie.Need-returns-2 Inv-loop μ-loop
 returns-2 c =
     let l = c .before .loop in
     let a = c .before .before .before .args in
-    listed-all (a .h .period) (a .h .modules) (standardAt (a .log .now) (a .h)) (a .h .standards) (l .i) (l .before) (l .entries) (l .pairs) (l .others) (l .last) (c .loop-test .left) (l .inv .1)
+    listed-all (a .h .period) (a .h .modules) (standardAt (a .log .now) (a .h)) (a .h .standards) (l .i) (l .before) (l .entries) (l .pairs) (l .ahead) (l .last) (c .loop-test .left) (l .inv .1)
 
 pub list-standards-spec : {M : Type 1} → statement M
 list-standards-spec =
