@@ -27,13 +27,14 @@ fn count_unit(
     h: Header,
     i: usize,
     byte: usize,
-    entries: &[u64; 512],
+    starts: &[u64; 512],
+    times: &[u32; 512],
     pairs: &[u16; 512],
     ahead: &[u16; 512],
     last: &[u16; 1024],
     judged: &mut [u64; 512],
 )
-    requires { ⌜ Listing (standardAt (now log) h) (h .standards) (now entries) (now pairs) (now ahead) (now last) ⌝ }
+    requires { ⌜ Listing (standardAt (now log) h) (h .standards) (now starts) (now times) (now pairs) (now ahead) (now last) ⌝ }
     requires { ⌜ isRising standardKey (upTo (standardAt (now log) h) (h .standards)) ≡ true ⌝ }
     requires { ⌜ JudgedSoFar (upTo (standardAt (now log) h) (h .standards)) (upTo (unitAt (now log) h) i) i (now judged) ⌝ }
     requires { ⌜ (i < 2000) × (byte ≡ 10 + 6 * h .states + 10 * h .standards + 11 * i) × Covers (now log) (byte + 11) ⌝ }
@@ -45,7 +46,8 @@ fn count_unit(
         log,
         h,
         n,
-        entries,
+        starts,
+        times,
         pairs,
         ahead,
         last,
@@ -62,13 +64,14 @@ fn count_unit(
 fn count_units(
     log: &[u8],
     h: Header,
-    entries: &[u64; 512],
+    starts: &[u64; 512],
+    times: &[u32; 512],
     pairs: &[u16; 512],
     ahead: &[u16; 512],
     last: &[u16; 1024],
     judged: &mut [u64; 512],
 )
-    requires { ⌜ Listing (standardAt (now log) h) (h .standards) (now entries) (now pairs) (now ahead) (now last) ⌝ }
+    requires { ⌜ Listing (standardAt (now log) h) (h .standards) (now starts) (now times) (now pairs) (now ahead) (now last) ⌝ }
     requires { ⌜ isRising standardKey (upTo (standardAt (now log) h) (h .standards)) ≡ true ⌝ }
     requires { ⌜ JudgedSoFar (upTo (standardAt (now log) h) (h .standards)) (upTo (unitAt (now log) h) 0) 0 (now judged) ⌝ }
     requires { ⌜ (h .units ≤ 2000) × Covers (now log) (10 + 6 * h .states + 10 * h .standards + 11 * h .units) ⌝ }
@@ -77,7 +80,7 @@ fn count_units(
     let mut byte = 10 + 6 * h.states + 10 * h.standards;
     let n = h.units;
     for i in 0..n {
-        count_unit(log, h, i, byte, entries, pairs, ahead, last, judged);
+        count_unit(log, h, i, byte, starts, times, pairs, ahead, last, judged);
         byte += 11;
     }
 }
@@ -90,10 +93,19 @@ pub fn effective_units(log: &[u8], h: Header, judged: &mut [u64; 512])
     requires { ⌜ now judged ≡ replicate 512 0 ⌝ }
     ensures { λ _. ⌜ JudgedSoFar (upTo (standardAt (now (log .entry)) h) (h .standards)) (upTo (unitAt (now (log .entry)) h) (h .units)) (h .units) (now (judged .exit)) ⌝ }
 {
-    let mut entries = [0u64; 512];
+    let mut starts = [0u64; 512];
+    let mut times = [0u32; 512];
     let mut pairs = [0u16; 512];
     let mut ahead = [0u16; 512];
     let mut last = [0u16; 1024];
-    theoretical::list_standards(log, h, &mut entries, &mut pairs, &mut ahead, &mut last);
-    count_units(log, h, &entries, &pairs, &ahead, &last, judged);
+    theoretical::list_standards(
+        log,
+        h,
+        &mut starts,
+        &mut times,
+        &mut pairs,
+        &mut ahead,
+        &mut last,
+    );
+    count_units(log, h, &starts, &times, &pairs, &ahead, &last, judged);
 }

@@ -28,7 +28,7 @@ use Rattle.rules.proofs.Keys.{sequenced-none}
 use Rattle.rules.specs.Sequence.{justBefore, isAfter, standardKey}
 use Rattle.rules.specs.Theoretical.{isFor}
 use Rattle.rules.specs.Keys.{standardNumber, StandardFits, StandardsSequenced}
-use Rattle.theoretical.specs.Listing.{entryOf, pairOf, binOf, isIn, lastOf, Held, Listing, Added, AllListed}
+use Rattle.theoretical.specs.Listing.{pairOf, binOf, isIn, lastOf, Pairs, Held, Listing, Added, AllListed}
 use Rattle.theoretical.proofs.Walks.{last-own, last-other}
 
 -- the widths of a standard's module, recipe and start
@@ -131,38 +131,25 @@ passed-plain period modules earlier i s e =
 
 -- ---- a standard in the arrays
 
-module _ (at : ℕ → Standard) (n : ℕ) (E P : List ℕ) (held : Held at n E P) (i : ℕ) (h : i < n) where
-  module _ (short : at i .theoretical < 2 ^ 27) where
-    -- its entry is below the next start's just where it starts at or before the time
-    pub entry-below : (time : ℕ) → ltb (getD E i 0) ((time + 1) * 2 ^ 27) ≡ leb (at i .start) time
-    entry-below time =
-        rw (held .entries i h)
-        (elim (decLt time (at i .start)) [
-          | yes l ↦ rw (lt-leb (at i .start) time l) (le-ltb (at i .start * 2 ^ 27 + at i .theoretical) ((time + 1) * 2 ^ 27) (omega arith))
-          | no g ↦ rw (le-leb (at i .start) time (omega arith)) (lt-ltb (at i .start * 2 ^ 27 + at i .theoretical) ((time + 1) * 2 ^ 27) (omega arith))
-        ])
+module _ (at : ℕ → Standard) (n : ℕ) (P : List ℕ) (paired : Pairs at n P) (i : ℕ) (h : i < n) (fits : StandardFits (at i)) where
+  -- its pair is that of the module and the recipe just where it is for them
+  pub pair-own : (m recipe : ℕ) → recipe < 1024 → eqb (getD P i 0) (pairOf m recipe) ≡ isFor m recipe (at i)
+  pair-own m recipe low = go (isFor m recipe (at i)) refl
+    where
+      go : (b : Bool) → isFor m recipe (at i) ≡ b → eqb (getD P i 0) (pairOf m recipe) ≡ b
+      go true e = let f = for-true m recipe (at i) e in eq-eqb (getD P i 0) (pairOf m recipe) (omega (arith, paired .pairs i h, f .0, f .1))
+      go false e = ne-eqb (getD P i 0) (pairOf m recipe) (λ o. false-true (sym e ∙ is-for m recipe (at i) (omega (arith, o, paired .pairs i h, fits .1), omega (arith, o, paired .pairs i h, fits .1))))
 
-  module _ (fits : StandardFits (at i)) where
-    pub pair-low : getD P i 0 < 65536
-    pair-low = omega (arith, held .pairs i h, fits .0, fits .1)
+  pub pair-low : getD P i 0 < 65536
+  pair-low = omega (arith, paired .pairs i h, fits .0, fits .1)
 
-    -- its pair is that of the module and the recipe just where it is for them
-    pub pair-own : (m recipe : ℕ) → recipe < 1024 → eqb (getD P i 0) (pairOf m recipe) ≡ isFor m recipe (at i)
-    pair-own m recipe low = go (isFor m recipe (at i)) refl
-      where
-        go : (b : Bool) → isFor m recipe (at i) ≡ b → eqb (getD P i 0) (pairOf m recipe) ≡ b
-        go true e = let f = for-true m recipe (at i) e in eq-eqb (getD P i 0) (pairOf m recipe) (omega (arith, held .pairs i h, f .0, f .1))
-        go false e = ne-eqb (getD P i 0) (pairOf m recipe) (λ o. false-true (sym e ∙ is-for m recipe (at i) (omega (arith, o, held .pairs i h, fits .1), omega (arith, o, held .pairs i h, fits .1))))
-
-    -- it is read back as it was
-    pub read-back : at i .theoretical < 2 ^ 27
-        → _≡_ {A = Standard} (record { «module» = getD P i 0 / 1024; recipe = getD P i 0 % 1024; start = getD E i 0 / 2 ^ 27; theoretical = getD E i 0 % 2 ^ 27; spare = 0 }) (at i)
-    read-back short =
-        let m : getD P i 0 / 1024 ≡ at i .«module» = omega (arith, held .pairs i h, fits .1) in
-        let recipe : getD P i 0 % 1024 ≡ at i .recipe = omega (arith, held .pairs i h, fits .1) in
-        let start : getD E i 0 / 2 ^ 27 ≡ at i .start = omega (arith, held .entries i h) in
-        let theoretical : getD E i 0 % 2 ^ 27 ≡ at i .theoretical = omega (arith, held .entries i h) in
-        rw (m, recipe, start, theoretical, held .plain i h)
+-- it is read back as it was
+pub read-back : (at : ℕ → Standard) (n : ℕ) (S T P : List ℕ) → Held at n S T P → (i : ℕ) → i < n → StandardFits (at i)
+    → _≡_ {A = Standard} (record { «module» = getD P i 0 / 1024; recipe = getD P i 0 % 1024; start = getD S i 0; theoretical = getD T i 0; spare = 0 }) (at i)
+read-back at n S T P held i h fits =
+    let m : getD P i 0 / 1024 ≡ at i .«module» = omega (arith, held .paired .pairs i h, fits .1) in
+    let recipe : getD P i 0 % 1024 ≡ at i .recipe = omega (arith, held .paired .pairs i h, fits .1) in
+    rw (m, recipe, held .starting .starts i h, held .times i h, held .plain i h)
 
 -- ---- one standard listed
 
@@ -170,7 +157,7 @@ pub bin-low : (pair : ℕ) → binOf pair < 1024
 unfolding binOf
 bin-low pair = omega arith
 
-module _ (at : ℕ → Standard) (i : ℕ) (E P A L : List ℕ) (listing : Listing at i E P A L) (small : i < 512) (plain : at i .spare ≡ 0) where
+module _ (at : ℕ → Standard) (i : ℕ) (S T P A L : List ℕ) (listing : Listing at i S T P A L) (small : i < 512) (plain : at i .spare ≡ 0) where
   -- an array with what belongs to i at i
   kept : (X : List ℕ) (f : ℕ → ℕ) → length X ≡ 512 → ((j : ℕ) → j < i → getD X j 0 ≡ f j) → (j : ℕ) → j < i + 1 → getD (set X i (f i)) j 0 ≡ f j
   kept X f len h j l =
@@ -186,34 +173,40 @@ module _ (at : ℕ → Standard) (i : ℕ) (E P A L : List ℕ) (listing : Listi
   lasts-more bin h =
       rw (add-one i)
       (elim (ℕ-discrete own-bin bin) [
-        | yes q ↦ rw (last-own (isIn bin) at i (eq-eqb own-bin bin q), ← q) (getD-set-same L own-bin (suc i) 0 (omega (arith, listing .sized .3, bin-low (pairOf (at i .«module») (at i .recipe)))))
+        | yes q ↦ rw (last-own (isIn bin) at i (eq-eqb own-bin bin q), ← q) (getD-set-same L own-bin (suc i) 0 (omega (arith, listing .sized .4, bin-low (pairOf (at i .«module») (at i .recipe)))))
         | no q ↦ rw (last-other (isIn bin) at i (ne-eqb own-bin bin q)) (getD-set-other L own-bin bin (suc i) 0 (λ e. q (sym e)) ∙ listing .lasts bin h)
       ])
 
-  pub listed-more : Listing at (i + 1) (set E i (entryOf (at i))) (set P i (pairOf (at i .«module») (at i .recipe)))
+  pub listed-more : Listing at (i + 1) (set S i (at i .start)) (set T i (at i .theoretical)) (set P i (pairOf (at i .«module») (at i .recipe)))
       (set A i (getD L own-bin 0)) (set L own-bin (i + 1))
   listed-more =
       record {
-        sized = (length-set E _ _ ∙ listing .sized .0, length-set P _ _ ∙ listing .sized .1, length-set A _ _ ∙ listing .sized .2, length-set L _ _ ∙ listing .sized .3);
+        sized = (length-set S _ _ ∙ listing .sized .0, length-set T _ _ ∙ listing .sized .1, length-set P _ _ ∙ listing .sized .2, length-set A _ _ ∙ listing .sized .3, length-set L _ _ ∙ listing .sized .4);
         held =
             record {
-              few = omega arith;
-              entries = kept E (λ j. entryOf (at j)) (listing .sized .0) (listing .held .entries);
-              pairs = kept P (λ j. pairOf (at j .«module») (at j .recipe)) (listing .sized .1) (listing .held .pairs);
+              starting = record { few = omega arith; starts = kept S (λ j. at j .start) (listing .sized .0) (listing .held .starting .starts) };
+              paired = record { few = omega arith; pairs = kept P (λ j. pairOf (at j .«module») (at j .recipe)) (listing .sized .2) (listing .held .paired .pairs) };
+              times = kept T (λ j. at j .theoretical) (listing .sized .1) (listing .held .times);
               plain = λ j l. elim (ℕ-discrete j i) [ yes q ↦ rw q plain | no q ↦ listing .held .plain j (omega (arith, q)) ];
             };
-        aheads = rw (listing .lasts own-bin (bin-low (pairOf (at i .«module») (at i .recipe)))) (kept A (λ j. lastOf (isIn (binOf (pairOf (at j .«module») (at j .recipe)))) at j) (listing .sized .2) (listing .aheads));
+        aheads = rw (listing .lasts own-bin (bin-low (pairOf (at i .«module») (at i .recipe)))) (kept A (λ j. lastOf (isIn (binOf (pairOf (at j .«module») (at j .recipe)))) at j) (listing .sized .3) (listing .aheads));
         lasts = lasts-more;
       }
 
 -- empty arrays hold no standard
-pub listing-none : (at : ℕ → Standard) (E P A L : List ℕ) → E ≡ replicate 512 0 → P ≡ replicate 512 0 → A ≡ replicate 512 0 → L ≡ replicate 1024 0 → Listing at 0 E P A L
+pub listing-none : (at : ℕ → Standard) (S T P A L : List ℕ) → S ≡ replicate 512 0 → T ≡ replicate 512 0 → P ≡ replicate 512 0 → A ≡ replicate 512 0 → L ≡ replicate 1024 0 → Listing at 0 S T P A L
 unfolding lastOf
-listing-none at E P A L ee ep ea el =
-    rw (ee, ep, ea, el)
+listing-none at S T P A L es et ep ea el =
+    rw (es, et, ep, ea, el)
     (record {
-      sized = (length-replicate {A = ℕ} 512 0, length-replicate {A = ℕ} 512 0, length-replicate {A = ℕ} 512 0, length-replicate {A = ℕ} 1024 0);
-      held = record { few = omega arith; entries = λ i h. absurd (omega arith); pairs = λ i h. absurd (omega arith); plain = λ i h. absurd (omega arith) };
+      sized = (length-replicate {A = ℕ} 512 0, length-replicate {A = ℕ} 512 0, length-replicate {A = ℕ} 512 0, length-replicate {A = ℕ} 512 0, length-replicate {A = ℕ} 1024 0);
+      held =
+          record {
+            starting = record { few = omega arith; starts = λ i h. absurd (omega arith) };
+            paired = record { few = omega arith; pairs = λ i h. absurd (omega arith) };
+            times = λ i h. absurd (omega arith);
+            plain = λ i h. absurd (omega arith);
+          };
       aheads = λ i h. absurd (omega arith);
       lasts = λ bin h. getD-replicate {A = ℕ} 1024 bin 0 0 h;
     })
@@ -224,34 +217,34 @@ abbrev tests : ℕ → ℕ → (ℕ → Standard) → ℕ → Verdict
 tests period modules at i = standardGround period modules (upTo at i) i (at i)
 
 -- the first i were tested, passed and listed
-pub record ListedTo (period modules : ℕ) (at : ℕ → Standard) (n i before : ℕ) (E P A L : List ℕ) : Type 0 where
+pub record ListedTo (period modules : ℕ) (at : ℕ → Standard) (n i before : ℕ) (S T P A L : List ℕ) : Type 0 where
   pub within : i ≤ n
   pub fine : firstOf (tests period modules at) i ≡ Accepted
   pub sequenced : StandardsSequenced (upTo at i) before
-  pub listing : Listing at i E P A L
+  pub listing : Listing at i S T P A L
 
 module _ (period modules : ℕ) (at : ℕ → Standard) (n : ℕ) where
-  pub listed-none : (E P A L : List ℕ) → Listing at 0 E P A L → ListedTo period modules at n 0 0 E P A L
+  pub listed-none : (S T P A L : List ℕ) → Listing at 0 S T P A L → ListedTo period modules at n 0 0 S T P A L
   unfolding upTo
-  listed-none E P A L l =
+  listed-none S T P A L l =
       record { within = omega arith; fine = first-none (tests period modules at); sequenced = sequenced-none standardKey standardNumber StandardFits (λ s. omega arith); listing = l }
 
-  pub listed-step : (i before : ℕ) (E P A L : List ℕ) → i < n → ListedTo period modules at n i before E P A L → (r : Verdict) (before′ : ℕ) (E′ P′ A′ L′ : List ℕ) → Added period modules at i r before′ E′ P′ A′ L′
-      → r ≡ Accepted → ListedTo period modules at n (i + 1) before′ E′ P′ A′ L′
-  listed-step i before E P A L h l r before′ E′ P′ A′ L′ a e =
+  pub listed-step : (i before : ℕ) (S T P A L : List ℕ) → i < n → ListedTo period modules at n i before S T P A L → (r : Verdict) (before′ : ℕ) (S′ T′ P′ A′ L′ : List ℕ) → Added period modules at i r before′ S′ T′ P′ A′ L′
+      → r ≡ Accepted → ListedTo period modules at n (i + 1) before′ S′ T′ P′ A′ L′
+  listed-step i before S T P A L h l r before′ S′ T′ P′ A′ L′ a e =
       record { within = omega arith; fine = first-more (tests period modules at) i (l .fine) (sym (a .answer) ∙ e); sequenced = a .sequenced e; listing = a .listing e }
 
-  pub listed-stop : (i before : ℕ) (E P A L : List ℕ) → i < n → ListedTo period modules at n i before E P A L → (r : Verdict) (before′ : ℕ) (E′ P′ A′ L′ : List ℕ) → Added period modules at i r before′ E′ P′ A′ L′
-      → (x : Refusal) → r ≡ Refused x → AllListed period modules at n r E′ P′ A′ L′
+  pub listed-stop : (i before : ℕ) (S T P A L : List ℕ) → i < n → ListedTo period modules at n i before S T P A L → (r : Verdict) (before′ : ℕ) (S′ T′ P′ A′ L′ : List ℕ) → Added period modules at i r before′ S′ T′ P′ A′ L′
+      → (x : Refusal) → r ≡ Refused x → AllListed period modules at n r S′ T′ P′ A′ L′
   unfolding standardGrounds
-  listed-stop i before E P A L h l r before′ E′ P′ A′ L′ a x e =
+  listed-stop i before S T P A L h l r before′ S′ T′ P′ A′ L′ a x e =
       record {
         answer = e ∙ sym (turn-range (standardGround period modules) at n ∙ first-stop (tests period modules at) n i x h (l .fine) (sym (a .answer) ∙ e));
         listing = λ f. absurd (refused-not (sym e ∙ f));
       }
 
-  pub listed-all : (i before : ℕ) (E P A L : List ℕ) → n ≤ i → ListedTo period modules at n i before E P A L → AllListed period modules at n Accepted E P A L
+  pub listed-all : (i before : ℕ) (S T P A L : List ℕ) → n ≤ i → ListedTo period modules at n i before S T P A L → AllListed period modules at n Accepted S T P A L
   unfolding standardGrounds
-  listed-all i before E P A L h l =
+  listed-all i before S T P A L h l =
       let q : i ≡ n = omega (arith, l .within) in
       record { answer = sym (turn-range (standardGround period modules) at n ∙ rw q at (l .fine)); listing = λ e. rw q at (l .listing) }

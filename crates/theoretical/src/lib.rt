@@ -10,7 +10,7 @@ ghost use Rattle.rules.specs.Theoretical.{placed, isFor, hasBegun, lastInForce}
 ghost use Rattle.rules.specs.Sequence.{isRising, standardKey};
 ghost use Rattle.rules.specs.Keys.{standardNumber, StandardFits, StandardsSequenced, unitNumber, UnitFits, UnitsSequenced};
 ghost use Rattle.rules.specs.RecordGrounds.{isAmong, standardGround};
-ghost use Rattle.theoretical.specs.Listing.{pairOf, binOf, lastOf, Held, Listing, Added, AllListed, lookupOf};
+ghost use Rattle.theoretical.specs.Listing.{pairOf, binOf, lastOf, Starts, Pairs, Held, Listing, Added, AllListed, lookupOf};
 ghost use Rattle.theoretical.specs.Credits.{ownGrounds, SumsSoFar, OneUnit, AllUnits, Units};
 use records::Header;
 use records::Standard;
@@ -35,21 +35,13 @@ fn refused(number: usize, list: usize, place: usize) -> Verdict
     })
 }
 
-// Whether standard i starts at or before a time. Its entry is its start and, in the last 27 bits, its theoretical time.
-fn starts_by(
-    log: &[u8],
-    h: Header,
-    n: usize,
-    entries: &[u64; 512],
-    pairs: &[u16; 512],
-    i: usize,
-    time: u64,
-) -> bool
-    requires { ⌜ Held (standardAt (now log) h) n (now entries) (now pairs) ⌝ }
-    requires { ⌜ (i < n) × (time < 2 ^ 35) ⌝ }
+// Whether standard i starts at or before a time.
+fn starts_by(log: &[u8], h: Header, n: usize, starts: &[u64; 512], i: usize, time: u64) -> bool
+    requires { ⌜ Starts (standardAt (now log) h) n (now starts) ⌝ }
+    requires { ⌜ i < n ⌝ }
     ensures { λ r. ⌜ r ≡ leb (standardAt (now (log .entry)) h i .start) time ⌝ }
 {
-    entries[i] < (time + 1) * 0x800_0000
+    starts[i] <= time
 }
 
 // A module and a recipe in one number.
@@ -65,13 +57,12 @@ fn is_for(
     log: &[u8],
     h: Header,
     n: usize,
-    entries: &[u64; 512],
     pairs: &[u16; 512],
     i: usize,
     module: usize,
     recipe: usize,
 ) -> bool
-    requires { ⌜ Held (standardAt (now log) h) n (now entries) (now pairs) ⌝ }
+    requires { ⌜ Pairs (standardAt (now log) h) n (now pairs) ⌝ }
     requires { ⌜ (i < n) × («module» < 64) × (recipe < 1024) ⌝ }
     ensures { λ r. ⌜ r ≡ isFor «module» recipe (standardAt (now (log .entry)) h i) ⌝ }
 {
@@ -83,19 +74,19 @@ fn has_begun(
     log: &[u8],
     h: Header,
     n: usize,
-    entries: &[u64; 512],
+    starts: &[u64; 512],
     pairs: &[u16; 512],
     i: usize,
     module: usize,
     recipe: usize,
     time: u64,
 ) -> bool
-    requires { ⌜ Held (standardAt (now log) h) n (now entries) (now pairs) ⌝ }
-    requires { ⌜ (i < n) × («module» < 64) × (recipe < 1024) × (time < 2 ^ 35) ⌝ }
+    requires { ⌜ Starts (standardAt (now log) h) n (now starts) × Pairs (standardAt (now log) h) n (now pairs) ⌝ }
+    requires { ⌜ (i < n) × («module» < 64) × (recipe < 1024) ⌝ }
     ensures { λ r. ⌜ r ≡ hasBegun «module» recipe time (standardAt (now (log .entry)) h i) ⌝ }
 {
-    if starts_by(log, h, n, entries, pairs, i, time) {
-        is_for(log, h, n, entries, pairs, i, module, recipe)
+    if starts_by(log, h, n, starts, i, time) {
+        is_for(log, h, n, pairs, i, module, recipe)
     } else {
         false
     }
@@ -106,21 +97,21 @@ fn placed_at(
     log: &[u8],
     h: Header,
     n: usize,
-    entries: &[u64; 512],
+    starts: &[u64; 512],
+    times: &[u32; 512],
     pairs: &[u16; 512],
     i: usize,
 ) -> Placed
-    requires { ⌜ Held (standardAt (now log) h) n (now entries) (now pairs) ⌝ }
+    requires { ⌜ Held (standardAt (now log) h) n (now starts) (now times) (now pairs) ⌝ }
     requires { ⌜ i < n ⌝ }
     ensures { λ r. ⌜ r ≡ placed i (standardAt (now (log .entry)) h i) ⌝ }
 {
-    let entry = entries[i];
     let pair = pairs[i] as usize;
     let standard = Standard {
         module: pair / 1024,
         recipe: pair % 1024,
-        start: entry / 0x800_0000,
-        theoretical: entry % 0x800_0000,
+        start: starts[i],
+        theoretical: times[i] as u64,
         spare: 0,
     };
     Placed { index: i, standard }
@@ -132,22 +123,23 @@ fn walk_back(
     log: &[u8],
     h: Header,
     n: usize,
-    entries: &[u64; 512],
+    starts: &[u64; 512],
+    times: &[u32; 512],
     pairs: &[u16; 512],
     from: usize,
     module: usize,
     recipe: usize,
     time: u64,
 ) -> Lookup
-    requires { ⌜ Held (standardAt (now log) h) n (now entries) (now pairs) ⌝ }
-    requires { ⌜ (from ≤ n) × («module» < 64) × (recipe < 1024) × (time < 2 ^ 35) ⌝ }
+    requires { ⌜ Held (standardAt (now log) h) n (now starts) (now times) (now pairs) ⌝ }
+    requires { ⌜ (from ≤ n) × («module» < 64) × (recipe < 1024) ⌝ }
     ensures { λ r. ⌜ r ≡ lookupOf (lastInForce (upTo (standardAt (now (log .entry)) h) from) «module» recipe time) ⌝ }
 {
     let mut left = from;
     while left != 0 {
         let i = left - 1;
-        if has_begun(log, h, n, entries, pairs, i, module, recipe, time) {
-            return Lookup::Found(placed_at(log, h, n, entries, pairs, i));
+        if has_begun(log, h, n, starts, pairs, i, module, recipe, time) {
+            return Lookup::Found(placed_at(log, h, n, starts, times, pairs, i));
         }
         left = i;
     }
@@ -167,21 +159,22 @@ fn last_for(
     log: &[u8],
     h: Header,
     n: usize,
-    entries: &[u64; 512],
+    starts: &[u64; 512],
+    times: &[u32; 512],
     pairs: &[u16; 512],
     ahead: &[u16; 512],
     last: &[u16; 1024],
     module: usize,
     recipe: usize,
 ) -> usize
-    requires { ⌜ Listing (standardAt (now log) h) n (now entries) (now pairs) (now ahead) (now last) ⌝ }
+    requires { ⌜ Listing (standardAt (now log) h) n (now starts) (now times) (now pairs) (now ahead) (now last) ⌝ }
     requires { ⌜ («module» < 64) × (recipe < 1024) ⌝ }
     ensures { λ r. ⌜ r ≡ lastOf (isFor «module» recipe) (standardAt (now (log .entry)) h) n ⌝ }
 {
     let mut from = last[bin_of(pair_of(module, recipe))] as usize;
     while from != 0 {
         let i = from - 1;
-        if is_for(log, h, n, entries, pairs, i, module, recipe) {
+        if is_for(log, h, n, pairs, i, module, recipe) {
             return from;
         }
         from = ahead[i] as usize;
@@ -195,7 +188,8 @@ pub fn look_up(
     log: &[u8],
     h: Header,
     n: usize,
-    entries: &[u64; 512],
+    starts: &[u64; 512],
+    times: &[u32; 512],
     pairs: &[u16; 512],
     ahead: &[u16; 512],
     last: &[u16; 1024],
@@ -203,19 +197,30 @@ pub fn look_up(
     recipe: usize,
     time: u64,
 ) -> Lookup
-    requires { ⌜ Listing (standardAt (now log) h) n (now entries) (now pairs) (now ahead) (now last) ⌝ }
-    requires { ⌜ («module» < 64) × (recipe < 1024) × (time < 2 ^ 35) ⌝ }
+    requires { ⌜ Listing (standardAt (now log) h) n (now starts) (now times) (now pairs) (now ahead) (now last) ⌝ }
+    requires { ⌜ («module» < 64) × (recipe < 1024) ⌝ }
     ensures { λ r. ⌜ r ≡ lookupOf (lastInForce (upTo (standardAt (now (log .entry)) h) n) «module» recipe time) ⌝ }
 {
-    let from = last_for(log, h, n, entries, pairs, ahead, last, module, recipe);
+    let from = last_for(log, h, n, starts, times, pairs, ahead, last, module, recipe);
     if from == 0 {
         return Lookup::Nothing;
     }
     let newest = from - 1;
-    if starts_by(log, h, n, entries, pairs, newest, time) {
-        return Lookup::Found(placed_at(log, h, n, entries, pairs, newest));
+    if starts_by(log, h, n, starts, newest, time) {
+        return Lookup::Found(placed_at(log, h, n, starts, times, pairs, newest));
     }
-    walk_back(log, h, n, entries, pairs, newest, module, recipe, time)
+    walk_back(
+        log,
+        h,
+        n,
+        starts,
+        times,
+        pairs,
+        newest,
+        module,
+        recipe,
+        time,
+    )
 }
 
 // A standard's module, recipe and start in one number above 0, by which standards ascend.
@@ -275,20 +280,22 @@ fn store_standard(
     log: &[u8],
     h: Header,
     i: usize,
-    entries: &mut [u64; 512],
+    starts: &mut [u64; 512],
+    times: &mut [u32; 512],
     pairs: &mut [u16; 512],
     ahead: &mut [u16; 512],
     last: &mut [u16; 1024],
     s: Standard,
 )
-    requires { ⌜ Listing (standardAt (now log) h) i (now entries) (now pairs) (now ahead) (now last) ⌝ }
+    requires { ⌜ Listing (standardAt (now log) h) i (now starts) (now times) (now pairs) (now ahead) (now last) ⌝ }
     requires { ⌜ (s ≡ standardAt (now log) h i) × (s .spare ≡ 0) × (i < 512) ⌝ }
-    ensures { λ r. ⌜ Listing (standardAt (now (log .entry)) h) (i + 1) (now (entries .exit)) (now (pairs .exit)) (now (ahead .exit)) (now (last .exit)) ⌝ }
+    ensures { λ r. ⌜ Listing (standardAt (now (log .entry)) h) (i + 1) (now (starts .exit)) (now (times .exit)) (now (pairs .exit)) (now (ahead .exit)) (now (last .exit)) ⌝ }
 {
     let pair = pair_of(s.module, s.recipe);
     let bin = bin_of(pair);
     ahead[i] = last[bin];
-    entries[i] = s.start * 0x800_0000 + s.theoretical;
+    starts[i] = s.start;
+    times[i] = s.theoretical as u32;
     pairs[i] = pair;
     last[bin] = (i + 1) as u16;
 }
@@ -299,15 +306,16 @@ fn list_standard(
     h: Header,
     i: usize,
     before: &mut u64,
-    entries: &mut [u64; 512],
+    starts: &mut [u64; 512],
+    times: &mut [u32; 512],
     pairs: &mut [u16; 512],
     ahead: &mut [u16; 512],
     last: &mut [u16; 1024],
 ) -> Verdict
     requires { ⌜ StandardsSequenced (upTo (standardAt (now log) h) i) (now before) ⌝ }
-    requires { ⌜ Listing (standardAt (now log) h) i (now entries) (now pairs) (now ahead) (now last) ⌝ }
+    requires { ⌜ Listing (standardAt (now log) h) i (now starts) (now times) (now pairs) (now ahead) (now last) ⌝ }
     requires { ⌜ (i < 512) × Covers (now log) (10 + 6 * h .states + 10 * i + 10) ⌝ }
-    ensures { λ r. ⌜ Added (h .period) (h .modules) (standardAt (now (log .entry)) h) i r (now (before .exit)) (now (entries .exit)) (now (pairs .exit)) (now (ahead .exit)) (now (last .exit)) ⌝ }
+    ensures { λ r. ⌜ Added (h .period) (h .modules) (standardAt (now (log .entry)) h) i r (now (before .exit)) (now (starts .exit)) (now (times .exit)) (now (pairs .exit)) (now (ahead .exit)) (now (last .exit)) ⌝ }
 {
     let s = records::standard_within(log, h, i);
     let verdict = test_standard(log, h, i, *before, s);
@@ -315,7 +323,7 @@ fn list_standard(
         return verdict;
     }
     *before = standard_number(s);
-    store_standard(log, h, i, entries, pairs, ahead, last, s);
+    store_standard(log, h, i, starts, times, pairs, ahead, last, s);
     Verdict::Accepted
 }
 
@@ -323,19 +331,20 @@ fn list_standard(
 pub fn list_standards(
     log: &[u8],
     h: Header,
-    entries: &mut [u64; 512],
+    starts: &mut [u64; 512],
+    times: &mut [u32; 512],
     pairs: &mut [u16; 512],
     ahead: &mut [u16; 512],
     last: &mut [u16; 1024],
 ) -> Verdict
     requires { ⌜ (h .standards ≤ 512) × Covers (now log) (10 + 6 * h .states + 10 * h .standards) ⌝ }
-    requires { ⌜ Listing (standardAt (now log) h) 0 (now entries) (now pairs) (now ahead) (now last) ⌝ }
-    ensures { λ r. ⌜ AllListed (h .period) (h .modules) (standardAt (now (log .entry)) h) (h .standards) r (now (entries .exit)) (now (pairs .exit)) (now (ahead .exit)) (now (last .exit)) ⌝ }
+    requires { ⌜ Listing (standardAt (now log) h) 0 (now starts) (now times) (now pairs) (now ahead) (now last) ⌝ }
+    ensures { λ r. ⌜ AllListed (h .period) (h .modules) (standardAt (now (log .entry)) h) (h .standards) r (now (starts .exit)) (now (times .exit)) (now (pairs .exit)) (now (ahead .exit)) (now (last .exit)) ⌝ }
 {
     let mut before = 0;
     let n = h.standards;
     for i in 0..n {
-        let verdict = list_standard(log, h, i, &mut before, entries, pairs, ahead, last);
+        let verdict = list_standard(log, h, i, &mut before, starts, times, pairs, ahead, last);
         if let Verdict::Refused(_) = verdict {
             return verdict;
         }
@@ -385,7 +394,8 @@ fn credit_unit(
     h: Header,
     i: usize,
     byte: usize,
-    entries: &[u64; 512],
+    starts: &[u64; 512],
+    times: &[u32; 512],
     pairs: &[u16; 512],
     ahead: &[u16; 512],
     last: &[u16; 1024],
@@ -393,7 +403,7 @@ fn credit_unit(
     actual: &mut [u64; 64],
     effective: &mut [u64; 64],
 ) -> Verdict
-    requires { ⌜ Listing (standardAt (now log) h) (h .standards) (now entries) (now pairs) (now ahead) (now last) ⌝ }
+    requires { ⌜ Listing (standardAt (now log) h) (h .standards) (now starts) (now times) (now pairs) (now ahead) (now last) ⌝ }
     requires { ⌜ isRising standardKey (upTo (standardAt (now log) h) (h .standards)) ≡ true ⌝ }
     requires { ⌜ UnitsSequenced (upTo (unitAt (now log) h) i) (now before) ⌝ }
     requires { ⌜ SumsSoFar (upTo (standardAt (now log) h) (h .standards)) (upTo (unitAt (now log) h) i) i (now actual) (now effective) ⌝ }
@@ -410,7 +420,8 @@ fn credit_unit(
         log,
         h,
         n,
-        entries,
+        starts,
+        times,
         pairs,
         ahead,
         last,
@@ -435,14 +446,15 @@ fn credit_unit(
 fn credit_listed(
     log: &[u8],
     h: Header,
-    entries: &[u64; 512],
+    starts: &[u64; 512],
+    times: &[u32; 512],
     pairs: &[u16; 512],
     ahead: &[u16; 512],
     last: &[u16; 1024],
     actual: &mut [u64; 64],
     effective: &mut [u64; 64],
 ) -> Verdict
-    requires { ⌜ Listing (standardAt (now log) h) (h .standards) (now entries) (now pairs) (now ahead) (now last) ⌝ }
+    requires { ⌜ Listing (standardAt (now log) h) (h .standards) (now starts) (now times) (now pairs) (now ahead) (now last) ⌝ }
     requires { ⌜ isRising standardKey (upTo (standardAt (now log) h) (h .standards)) ≡ true ⌝ }
     requires { ⌜ SumsSoFar (upTo (standardAt (now log) h) (h .standards)) (upTo (unitAt (now log) h) 0) 0 (now actual) (now effective) ⌝ }
     requires { ⌜ (h .units ≤ 2000) × Covers (now log) (10 + 6 * h .states + 10 * h .standards + 11 * h .units) ⌝ }
@@ -457,7 +469,8 @@ fn credit_listed(
             h,
             i,
             byte,
-            entries,
+            starts,
+            times,
             pairs,
             ahead,
             last,
@@ -485,13 +498,32 @@ pub fn credit_units(
     requires { ⌜ (now actual ≡ replicate 64 0) × (now effective ≡ replicate 64 0) ⌝ }
     ensures { λ r. ⌜ Units (h .period) (h .modules) (upTo (standardAt (now (log .entry)) h) (h .standards)) (upTo (unitAt (now (log .entry)) h) (h .units)) r (now (actual .exit)) (now (effective .exit)) ⌝ }
 {
-    let mut entries = [0u64; 512];
+    let mut starts = [0u64; 512];
+    let mut times = [0u32; 512];
     let mut pairs = [0u16; 512];
     let mut ahead = [0u16; 512];
     let mut last = [0u16; 1024];
-    let verdict = list_standards(log, h, &mut entries, &mut pairs, &mut ahead, &mut last);
+    let verdict = list_standards(
+        log,
+        h,
+        &mut starts,
+        &mut times,
+        &mut pairs,
+        &mut ahead,
+        &mut last,
+    );
     if let Verdict::Refused(_) = verdict {
         return verdict;
     }
-    credit_listed(log, h, &entries, &pairs, &ahead, &last, actual, effective)
+    credit_listed(
+        log,
+        h,
+        &starts,
+        &times,
+        &pairs,
+        &ahead,
+        &last,
+        actual,
+        effective,
+    )
 }

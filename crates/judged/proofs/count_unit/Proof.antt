@@ -35,7 +35,7 @@ look-up-requires : tie.Need-look-up-requires
 look-up-requires c κs =
     let s = c .before .before in
     let w = unit-widths (s .args .log .now) (s .args .h) (s .args .i) (c .unit-from .result) (reads c) in
-    (s .pre .0, (w .0, w .1, w .2))
+    (s .pre .0, (w .0, w .1))
 
 looked-up : (c : tie.After-look-up) → c .look-up .result ≡ lookupOf (force (c .before .before .before) (c .before .unit-from .result))
 looked-up c =
@@ -57,7 +57,7 @@ low : (c : tie.After-p) → c .p .given .0 .0 .index < 512
 low c =
     let s = c .before .before .before .before .before in
     let u = c .before .before .before .unit-from .result in
-    omega (arith, the-one (standardAt (s .args .log .now) (s .args .h)) (u .«module») (u .recipe) (u .time) (s .args .h .standards) (c .p .given .0 .0) (found c) .listed, s .pre .0 .held .few)
+    omega (arith, the-one (standardAt (s .args .log .now) (s .args .h)) (u .«module») (u .recipe) (u .time) (s .args .h .standards) (c .p .given .0 .0) (found c) .listed, s .pre .0 .held .paired .few)
 
 narrow : (c : tie.After-p) → let u = c .before .before .before .unit-from .result in (u .actual < 65536) × (u .effective < 65536)
 narrow c =

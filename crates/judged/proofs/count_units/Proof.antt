@@ -9,14 +9,14 @@ use Rattle.judged.proofs.count_units.Statement.{statement}
 use Rattle.judged.proofs.count_units.Tie as tie
 
 abbrev Inv-loop : tie.InvT-loop
-Inv-loop log h entries pairs ahead last judged₀ byte₀ n i₀ judged byte i =
+Inv-loop log h starts times pairs ahead last judged₀ byte₀ n i₀ judged byte i =
     (n ≡ h .units)
     × (i ≤ n)
     × (byte ≡ 10 + 6 * h .states + 10 * h .standards + 11 * i)
     × JudgedSoFar (upTo (standardAt log h) (h .standards)) (upTo (unitAt log h) i) i judged
 
 abbrev μ-loop : tie.MeasureT-loop
-μ-loop log h entries pairs ahead last judged₀ byte₀ n i₀ judged byte i = n - i
+μ-loop log h starts times pairs ahead last judged₀ byte₀ n i₀ judged byte i = n - i
 
 -- the last record ends in the log, so no byte's place passes 64 bits
 room : (s : tie.Start Inv-loop μ-loop) → 10 + 6 * s .args .h .states + 10 * s .args .h .standards + 11 * s .args .h .units < 2 ^ 32

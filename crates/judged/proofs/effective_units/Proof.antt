@@ -12,13 +12,13 @@ use Rattle.judged.proofs.effective_units.Tie as tie
 
 list-standards-requires : tie.Need-list-standards-requires
 list-standards-requires c κs =
-    let s = c .before .before .before .before .before in
-    ((s .pre .0 .0, (omega (arith, s .pre .0 .2 .0), s .pre .0 .2 .1)), listing-none (standardAt (s .args .log .now) (s .args .h)) _ _ _ _ refl refl refl refl)
+    let s = c .before .before .before .before .before .before in
+    ((s .pre .0 .0, (omega (arith, s .pre .0 .2 .0), s .pre .0 .2 .1)), listing-none (standardAt (s .args .log .now) (s .args .h)) _ _ _ _ _ refl refl refl refl refl)
 
 count-units-requires : tie.Need-count-units-requires
 count-units-requires c κs =
-    let l = c .before .before .before .before .before in
-    let s = l .before .before .before .before .before .before in
+    let l = c .before .before .before .before .before .before in
+    let s = l .before .before .before .before .before .before .before in
     let a = s .args in
     let rising = standards-rise (a .h .period) (a .h .modules) (upTo (standardAt (a .log .now) (a .h)) (a .h .standards)) (s .pre .1 .0) in
     (l .list-standards .ensures .listing (l .list-standards .ensures .answer ∙ s .pre .1 .0), (rising, (counted-from-zero _ _ _ (s .pre .1 .1), (s .pre .0 .1, s .pre .0 .2))))

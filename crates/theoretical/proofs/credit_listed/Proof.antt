@@ -10,13 +10,13 @@ use Rattle.theoretical.proofs.credit_listed.Statement.{statement}
 use Rattle.theoretical.proofs.credit_listed.Tie as tie
 
 abbrev Inv-loop : tie.InvT-loop
-Inv-loop log h entries pairs ahead last actual₀ effective₀ before₀ byte₀ n i₀ actual effective before byte i =
+Inv-loop log h starts times pairs ahead last actual₀ effective₀ before₀ byte₀ n i₀ actual effective before byte i =
     (n ≡ h .units)
     × (byte ≡ 10 + 6 * h .states + 10 * h .standards + 11 * i)
     × CreditedTo (h .period) (h .modules) (upTo (standardAt log h) (h .standards)) (unitAt log h) n i before actual effective
 
 abbrev μ-loop : tie.MeasureT-loop
-μ-loop log h entries pairs ahead last actual₀ effective₀ before₀ byte₀ n i₀ actual effective before byte i = n - i
+μ-loop log h starts times pairs ahead last actual₀ effective₀ before₀ byte₀ n i₀ actual effective before byte i = n - i
 
 loop-holds : tie.Need-loop-holds Inv-loop μ-loop
 loop-holds c =
@@ -37,7 +37,7 @@ returns c =
     let l = c .before .before .before .before .before .before .before .loop in
     let r = c .before .before .credit-unit in
     credited-stop (a .h .period) (a .h .modules) (upTo (standardAt (a .log .now) (a .h)) (a .h .standards)) (unitAt (a .log .now) (a .h)) (a .h .units) (l .i) (l .before) (l .actual) (l .effective) (c .before .before .before .before .before .before .loop-test .taken) (l .inv .2)
-    (r .result) (r .last .1 .1 .1 .1 .1 .1 .1 .1 .0) (r .last .1 .1 .1 .1 .1 .1 .1 .1 .1 .0) (r .last .1 .1 .1 .1 .1 .1 .1 .1 .1 .1 .0) (r .ensures) _ (c .enum-told .given .1)
+    (r .result) (r .last .1 .1 .1 .1 .1 .1 .1 .1 .1 .0) (r .last .1 .1 .1 .1 .1 .1 .1 .1 .1 .1 .0) (r .last .1 .1 .1 .1 .1 .1 .1 .1 .1 .1 .1 .0) (r .ensures) _ (c .enum-told .given .1)
 
 loop-again : tie.Need-loop-again Inv-loop μ-loop
 loop-again c =
@@ -47,7 +47,7 @@ loop-again c =
       refl,
       omega (arith, l .inv .1),
       credited-step (a .h .period) (a .h .modules) (upTo (standardAt (a .log .now) (a .h)) (a .h .standards)) (unitAt (a .log .now) (a .h)) (a .h .units) (l .i) (l .before) (l .actual) (l .effective) (c .before .before .before .before .before .before .loop-test .taken) (l .inv .2)
-          (r .result) (r .last .1 .1 .1 .1 .1 .1 .1 .1 .0) (r .last .1 .1 .1 .1 .1 .1 .1 .1 .1 .0) (r .last .1 .1 .1 .1 .1 .1 .1 .1 .1 .1 .0) (r .ensures) (c .enum-told2 .given .1),
+          (r .result) (r .last .1 .1 .1 .1 .1 .1 .1 .1 .1 .0) (r .last .1 .1 .1 .1 .1 .1 .1 .1 .1 .1 .0) (r .last .1 .1 .1 .1 .1 .1 .1 .1 .1 .1 .1 .0) (r .ensures) (c .enum-told2 .given .1),
     )
 
 returns-2 : tie.Need-returns-2 Inv-loop μ-loop

@@ -45,7 +45,7 @@ look-up-requires c κs =
     let a = s .args in
     let u = c .before .before .before in
     let w = unit-widths (a .log .now) (a .h) (a .i) (u .unit-from .result) (reads u) in
-    (s .pre .0, (w .0, w .1, w .2))
+    (s .pre .0, (w .0, w .1))
 
 -- the standards rise, so what was looked up is what is in force
 looked-up : (c : tie.After-look-up)

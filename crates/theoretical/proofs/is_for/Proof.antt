@@ -11,7 +11,7 @@ returns c =
     let s = c .before .before .before in
     let a = s .args in
     rw (c .pair-of .ensures)
-    (pair-own (standardAt (a .log .now) (a .h)) (a .n) (a .entries .now) (a .pairs .now) (s .pre .0) (a .i) (s .pre .1 .0) (fits-fields (a .log .now) (a .h) (a .i)) (a .«module») (a .recipe) (s .pre .1 .2))
+    (pair-own (standardAt (a .log .now) (a .h)) (a .n) (a .pairs .now) (s .pre .0) (a .i) (s .pre .1 .0) (fits-fields (a .log .now) (a .h) (a .i)) (a .«module») (a .recipe) (s .pre .1 .2))
 
 pub is-for-spec : {M : Type 1} → statement M
 is-for-spec = tie.close (tie.spec (λ c. search needs) (λ c. search needs) (λ c κs. search needs) returns)

@@ -14,10 +14,10 @@ use Rattle.theoretical.proofs.last_for.Statement.{statement}
 use Rattle.theoretical.proofs.last_for.Tie as tie
 
 abbrev Inv-loop : tie.InvT-loop
-Inv-loop log h n entries pairs others last m recipe from₀ from = Seeking (standardAt log h) m recipe n from
+Inv-loop log h n starts times pairs ahead last m recipe from₀ from = Seeking (standardAt log h) m recipe n from
 
 abbrev μ-loop : tie.MeasureT-loop
-μ-loop log h n entries pairs others last m recipe from₀ from = from
+μ-loop log h n starts times pairs ahead last m recipe from₀ from = from
 
 abbrev at : tie.Start Inv-loop μ-loop → ℕ → Standard
 at s = standardAt (s .args .log .now) (s .args .h)
@@ -39,7 +39,7 @@ seeking c =
     (rw (found c) (s .pre .0 .lasts (own-bin s) (bin-low (pairOf (s .args .«module») (s .args .recipe)))))
 
 cast-from : tie.Need-cast-from Inv-loop μ-loop
-cast-from c = record { fits = omega (arith, seeking (c .before) .within, c .before .before .before .before .pre .0 .held .few) }
+cast-from c = record { fits = omega (arith, seeking (c .before) .within, c .before .before .before .before .pre .0 .held .paired .few) }
 
 loop-holds : tie.Need-loop-holds Inv-loop μ-loop
 loop-holds c = seeking (c .before)
@@ -55,7 +55,7 @@ listed : (c : tie.In-loop Inv-loop μ-loop) → c .before .loop .from - 1 < c .b
 listed c = omega (arith, c .loop-test .taken, c .before .loop .inv .within)
 
 is-for-requires : tie.Need-is-for-requires Inv-loop μ-loop
-is-for-requires c κs = let s = c .before .before .before .before .before .before in (s .pre .0 .held, (listed c, s .pre .1 .0, s .pre .1 .1))
+is-for-requires c κs = let s = c .before .before .before .before .before .before in (s .pre .0 .held .paired, (listed c, s .pre .1 .0, s .pre .1 .1))
 
 returns : tie.Need-returns Inv-loop μ-loop
 returns c =
@@ -86,7 +86,7 @@ further-on c =
 cast-from-2 : tie.Need-cast-from-2 Inv-loop μ-loop
 cast-from-2 c =
     let e = c .before in
-    record { fits = omega (arith, further-on e, listed (e .before .before), e .before .before .before .before .before .before .before .before .pre .0 .held .few) }
+    record { fits = omega (arith, further-on e, listed (e .before .before), e .before .before .before .before .before .before .before .before .pre .0 .held .paired .few) }
 
 loop-less : tie.Need-loop-less Inv-loop μ-loop
 loop-less c = omega (arith, further-on (c .before), c .before .before .before .loop-test .taken)
@@ -120,8 +120,8 @@ last-for-spec =
     (λ c. omega (arith, c .loop-test .taken))
     is-for-requires
     returns
-    (λ c. omega (arith, listed (c .before .before), c .before .before .before .before .before .before .before .before .pre .0 .held .few))
-    (λ c. omega (arith, listed (c .before .before), c .before .before .before .before .before .before .before .before .pre .0 .held .few))
+    (λ c. omega (arith, listed (c .before .before), c .before .before .before .before .before .before .before .before .pre .0 .held .paired .few))
+    (λ c. omega (arith, listed (c .before .before), c .before .before .before .before .before .before .before .before .pre .0 .held .paired .few))
     cast-from-2
     loop-less
     loop-again

@@ -44,24 +44,24 @@ returns c =
 
 store-standard-requires : tie.Need-store-standard-requires
 store-standard-requires c κs =
-    let t = c .before .before .before .before .before .before .before in
+    let t = c .before .before .before .before .before .before .before .before in
     let s = t .before .before .before .before in
-    let plain = passed-plain _ _ _ _ _ (sym (t .test-standard .ensures) ∙ c .before .before .before .before .before .enum-told2 .given .1) in
+    let plain = passed-plain _ _ _ _ _ (sym (t .test-standard .ensures) ∙ c .before .before .before .before .before .before .enum-told2 .given .1) in
     (s .pre .1 .0, (t .before .before .standard-within .ensures, plain, s .pre .1 .1 .0))
 
 returns-2 : tie.Need-returns-2
 returns-2 c =
-    let t = c .before .before .before .before .before .before .before .before in
+    let t = c .before .before .before .before .before .before .before .before .before in
     let r = t .before .before in
     let s = r .before .before in
     let a = s .args in
     let at = standardAt (a .log .now) (a .h) in
-    let passed = c .before .before .before .before .before .before .enum-told2 .given .1 in
+    let passed = c .before .before .before .before .before .before .before .enum-told2 .given .1 in
     let after : isAfter standardKey (justBefore (upTo at (a .i))) (r .standard-within .result) ≡ true
     = ap (isAfter standardKey (justBefore (upTo at (a .i)))) (r .standard-within .ensures) ∙ standard-after _ _ _ _ _ (sym (tested t) ∙ passed) in
     record {
       answer = sym passed ∙ tested t;
-      sequenced = λ e. rw (up-to-more at (a .i), ← r .standard-within .ensures, c .before .before .before .before .before .standard-number .ensures)
+      sequenced = λ e. rw (up-to-more at (a .i), ← r .standard-within .ensures, c .before .before .before .before .before .before .standard-number .ensures)
           (sequenced-more standardKey standardNumber StandardFits standards-below (upTo at (a .i)) _ _ (s .pre .0) (fits r) after);
       listing = λ e. c .store-standard .ensures;
     }

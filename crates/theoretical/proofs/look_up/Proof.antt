@@ -30,7 +30,7 @@ listed : (c : tie.Else1) → let f = c .before .last-for .result in (f ≡ suc (
 listed c = (omega (arith, c .if1 .left), omega (arith, c .if1 .left, searching (c .before) .within))
 
 starts-by-requires : tie.Need-starts-by-requires
-starts-by-requires c κs = let s = c .before .before .before in (s .pre .0 .held, (listed c .1, omega (arith, s .pre .1 .2)))
+starts-by-requires c κs = let s = c .before .before .before in (s .pre .0 .held .starting, listed c .1)
 
 placed-at-requires : tie.Need-placed-at-requires
 placed-at-requires c κs = let e = c .before .before in (e .before .before .before .pre .0 .held, listed e .1)
@@ -45,7 +45,7 @@ returns-2 c =
     (leb-true _ _ (sym (t .starts-by .ensures) ∙ c .before .if2 .taken)))
 
 walk-back-requires : tie.Need-walk-back-requires
-walk-back-requires c κs = let e = c .before .before in let s = e .before .before .before in (s .pre .0 .held, (omega (arith, listed e .1), s .pre .1 .0, s .pre .1 .1, s .pre .1 .2))
+walk-back-requires c κs = let e = c .before .before in let s = e .before .before .before in (s .pre .0 .held, (omega (arith, listed e .1), s .pre .1 .0, s .pre .1 .1))
 
 returns-3 : tie.Need-returns-3
 returns-3 c =

@@ -23,12 +23,12 @@ low-bin c = let a = c .before .before .before .args in rw (found c) (bin-low (pa
 
 returns : tie.Need-returns
 returns c =
-    let b = c .before .before .before in
+    let b = c .before .before in
     let s = b .before .before .before in
     let a = s .args in
     let plain : standardAt (a .log .now) (a .h) (a .i) .spare ≡ 0 = ap (λ (x : Standard). x .spare) (sym (s .pre .1 .0)) ∙ s .pre .1 .1 in
     rw (found b, b .before .pair-of .ensures, s .pre .1 .0)
-    (listed-more (standardAt (a .log .now) (a .h)) (a .i) (a .entries .now) (a .pairs .now) (a .ahead .now) (a .last .now) (s .pre .0) (s .pre .1 .2) plain)
+    (listed-more (standardAt (a .log .now) (a .h)) (a .i) (a .starts .now) (a .times .now) (a .pairs .now) (a .ahead .now) (a .last .now) (s .pre .0) (s .pre .1 .2) plain)
 
 pub store-standard-spec : {M : Type 1} → statement M
 store-standard-spec =
@@ -40,14 +40,15 @@ store-standard-spec =
     low-bin
     (λ c. search needs)
     (λ c. search needs)
+    (λ c. search needs)
+    (λ c. search needs)
     (λ c. omega (arith, low (c .before .before .before .before .before)))
-    (λ c. omega (arith, low (c .before .before .before .before .before .before)))
     (λ c. search needs)
     (λ c. search needs)
     (λ c. search needs)
     (λ c. search needs)
     (λ c. search needs)
     (λ c. search needs)
-    (λ c. omega (arith, low-bin (c .before .before .before)))
-    (λ c. low-bin (c .before .before .before))
+    (λ c. omega (arith, low-bin (c .before .before)))
+    (λ c. low-bin (c .before .before))
     returns)
