@@ -62,8 +62,8 @@ impl StateRecord {
 }
 
 impl Standard {
-    pub fn key(&self) -> (u64, u64) {
-        (self.recipe, self.start)
+    pub fn key(&self) -> (u64, u64, u64) {
+        (self.module, self.recipe, self.start)
     }
 }
 
@@ -116,9 +116,11 @@ impl Draft {
             writer.put(record.spare, 2);
         }
         for standard in &self.standards {
+            writer.put(standard.module, 6);
             writer.put(standard.recipe, 10);
             writer.put(standard.start, 35);
             writer.put(standard.theoretical, 27);
+            writer.put(standard.spare, 2);
         }
         for unit in &self.units {
             writer.put(unit.module, 6);
@@ -145,11 +147,13 @@ impl Draft {
         });
     }
 
-    pub fn standard(&mut self, recipe: u64, start: u64, theoretical: u64) {
+    pub fn standard(&mut self, module: u64, recipe: u64, start: u64, theoretical: u64) {
         self.standards.push(Standard {
+            module,
             recipe,
             start,
             theoretical,
+            spare: 0,
         });
     }
 

@@ -1,4 +1,4 @@
-//! Tests the tool-log library from outside: documents 01 and 02, as far as R-4, in plain Rust,
+//! Tests the tool-log library from outside: documents 01 and 02, as far as R-5, in plain Rust,
 //! apart from the library (`oracle`, `writing`, `supplemental`), a seeded generator of logs, of
 //! runs of calls that write them and of benchmarks, and the comparison with the linked library.
 

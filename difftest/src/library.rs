@@ -154,11 +154,12 @@ pub fn put(buffer: &mut [u8], position: usize, record: &Record) -> Answer<[u64; 
                 &mut refusal,
             )
         },
-        Record::Standard([recipe, start_time, theoretical]) => unsafe {
+        Record::Standard([module, recipe, start_time, theoretical]) => unsafe {
             c::tl_put_standard(
                 start,
                 length,
                 position,
+                module,
                 recipe,
                 start_time,
                 theoretical,

@@ -1,4 +1,5 @@
-//! Document 01 with the rising sequence of R-1 in plain Rust, written to be read beside them and not to be fast.
+//! Document 01 with the rising sequence of R-1 and the standards of R-5 in plain Rust, written to be read beside them and not
+//! to be fast.
 
 use crate::records::*;
 
@@ -50,9 +51,11 @@ impl BitReader<'_> {
 
     fn standard(&mut self) -> Standard {
         Standard {
+            module: self.number(6),
             recipe: self.number(10),
             start: self.number(35),
             theoretical: self.number(27),
+            spare: self.number(2),
         }
     }
 
@@ -228,12 +231,12 @@ pub struct Sums {
     pub quantities: Quantities,
 }
 
-/// The standard in force: of the recipe's standards at or before the time, the one with the latest start.
-/// Of two equal starts, which only a refused log has, the first in the list.
-pub fn in_force(standards: &[Standard], recipe: u64, time: u64) -> Option<Standard> {
+/// The standard in force: of the standards of the module and recipe at or before the time, the one with the latest
+/// start. Of two equal starts, which only a refused log has, the first in the list.
+pub fn in_force(standards: &[Standard], module: u64, recipe: u64, time: u64) -> Option<Standard> {
     let mut found: Option<Standard> = None;
     for standard in standards {
-        if standard.recipe != recipe || standard.start > time {
+        if standard.module != module || standard.recipe != recipe || standard.start > time {
             continue;
         }
         match found {
@@ -244,18 +247,25 @@ pub fn in_force(standards: &[Standard], recipe: u64, time: u64) -> Option<Standa
     found
 }
 
-/// R-3's walk from the end of the list towards its front: the last standard of the recipe with a start at or
-/// before the time.
-pub fn last_in_force(standards: &[Standard], recipe: u64, time: u64) -> Option<Standard> {
-    let begun = |standard: &&Standard| standard.recipe == recipe && standard.start <= time;
+/// R-3's walk from the end of the list towards its front: the last standard of the module and recipe with a start
+/// at or before the time.
+pub fn last_in_force(
+    standards: &[Standard],
+    module: u64,
+    recipe: u64,
+    time: u64,
+) -> Option<Standard> {
+    let begun = |standard: &&Standard| {
+        standard.module == module && standard.recipe == recipe && standard.start <= time
+    };
     standards.iter().rev().find(begun).copied()
 }
 
 /// The standard of a tested unit. In the rising sequence the walk answers the one in force.
 pub fn standard_of(log: &Log, unit: &UnitRecord) -> Standard {
-    let standard = in_force(&log.standards, unit.recipe, unit.time);
+    let standard = in_force(&log.standards, unit.module, unit.recipe, unit.time);
     assert_eq!(
-        last_in_force(&log.standards, unit.recipe, unit.time),
+        last_in_force(&log.standards, unit.module, unit.recipe, unit.time),
         standard,
         "the walk answers another standard than the one in force"
     );
@@ -349,22 +359,32 @@ fn test_openings(log: &Log) -> Result<(), Refusal> {
 fn test_standards(log: &Log) -> Result<(), Refusal> {
     for (place, standard) in log.standards.iter().enumerate() {
         let refused = |number| Err(Refusal::new(number, STANDARDS, place));
+        if standard.spare != 0 {
+            return refused(6);
+        }
+        if standard.module >= log.header.modules {
+            return refused(7);
+        }
         if standard.start >= log.header.period {
             return refused(9);
         }
         if standard.theoretical == 0 {
             return refused(12);
         }
-        let alike =
-            |other: &Standard| other.recipe == standard.recipe && other.start == standard.start;
+        let alike = |other: &Standard| {
+            other.module == standard.module
+                && other.recipe == standard.recipe
+                && other.start == standard.start
+        };
         let earlier = &log.standards[..place];
         if earlier.iter().any(alike) {
             return refused(13);
         }
-        // By recipe, then start.
-        let not_above_the_one_before = earlier
-            .last()
-            .is_some_and(|last| (standard.recipe, standard.start) <= (last.recipe, last.start));
+        // By module, then recipe, then start.
+        let not_above_the_one_before = earlier.last().is_some_and(|last| {
+            (standard.module, standard.recipe, standard.start)
+                <= (last.module, last.recipe, last.start)
+        });
         if not_above_the_one_before {
             return refused(19);
         }
@@ -387,7 +407,7 @@ fn test_unit_records(log: &Log) -> Result<(), Refusal> {
         if unit.effective > unit.actual {
             return refused(14);
         }
-        if in_force(&log.standards, unit.recipe, unit.time).is_none() {
+        if in_force(&log.standards, unit.module, unit.recipe, unit.time).is_none() {
             return refused(15);
         }
         // By time, then module, then recipe.

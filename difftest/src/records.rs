@@ -10,7 +10,7 @@ pub const MOST_UNITS: u64 = 2_000;
 /// Lengths in bytes.
 pub const HEADER_BYTES: u64 = 10;
 pub const STATE_BYTES: u64 = 6;
-pub const STANDARD_BYTES: u64 = 9;
+pub const STANDARD_BYTES: u64 = 10;
 pub const UNIT_BYTES: u64 = 11;
 pub const BENCHMARK_BYTES: u64 = 14;
 
@@ -32,12 +32,14 @@ pub struct StateRecord {
     pub spare: u64,
 }
 
-/// A theoretical time per unit of a recipe, from a start on.
+/// A module's theoretical time per unit of a recipe, from a start on.
 #[derive(Clone, Copy, Debug, PartialEq, Eq)]
 pub struct Standard {
+    pub module: u64,
     pub recipe: u64,
     pub start: u64,
     pub theoretical: u64,
+    pub spare: u64,
 }
 
 /// Units of a recipe that a module made.
@@ -67,24 +69,34 @@ pub enum Record {
     Header([u64; 5]),
     /// Module, code, time.
     State([u64; 3]),
-    /// Recipe, start, theoretical.
-    Standard([u64; 3]),
+    /// Module, recipe, start, theoretical.
+    Standard([u64; 4]),
     /// Module, recipe, time, actual, effective.
     Unit([u64; 5]),
 }
+
+/// A record of each kind, every value 0.
+pub const KINDS: [Record; 4] = [
+    Record::Header([0; 5]),
+    Record::State([0; 3]),
+    Record::Standard([0; 4]),
+    Record::Unit([0; 5]),
+];
 
 impl Record {
     pub fn values(&self) -> &[u64] {
         match self {
             Record::Header(values) | Record::Unit(values) => values,
-            Record::State(values) | Record::Standard(values) => values,
+            Record::State(values) => values,
+            Record::Standard(values) => values,
         }
     }
 
     pub fn values_mut(&mut self) -> &mut [u64] {
         match self {
             Record::Header(values) | Record::Unit(values) => values,
-            Record::State(values) | Record::Standard(values) => values,
+            Record::State(values) => values,
+            Record::Standard(values) => values,
         }
     }
 
@@ -93,16 +105,23 @@ impl Record {
         match self {
             Record::Header(_) => &[35, 7, 14, 11, 13],
             Record::State(_) => &[6, 5, 35],
-            Record::Standard(_) => &[10, 35, 27],
+            Record::Standard(_) => &[6, 10, 35, 27],
             Record::Unit(_) => &[6, 10, 35, 16, 16],
         }
+    }
+
+    /// The fields, from 0 on, whose value is not below 2 to the width. What it means is not asked.
+    pub fn too_wide(&self) -> Vec<usize> {
+        let fits = |field: &usize| self.values()[*field] < 1 << self.widths()[*field];
+        let fields = 0..self.values().len();
+        fields.filter(|field| !fits(field)).collect()
     }
 
     /// Spare bits, which end the record.
     pub fn spare(&self) -> u32 {
         match self {
-            Record::Header(_) | Record::Standard(_) => 0,
-            Record::State(_) => 2,
+            Record::Header(_) => 0,
+            Record::State(_) | Record::Standard(_) => 2,
             Record::Unit(_) => 5,
         }
     }

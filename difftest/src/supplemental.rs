@@ -23,7 +23,7 @@ pub fn answer(
     }
 }
 
-/// An accepted log, and the effective units of all modules judged by each of its standards.
+/// An accepted log, and the effective units judged by each of its standards.
 pub struct Judged {
     pub log: Log,
     pub effective: Vec<u64>,
@@ -143,7 +143,7 @@ pub fn text(figures: &Supplemental) -> Vec<u8> {
 /// What is said of a refusal of the benchmarks: word and meaning of the card, and where it points to.
 pub fn words(refusal: &Refusal) -> Option<String> {
     let card = match refusal.number {
-        5 => "length: bytes other than 10 + 6 states + 9 standards + 11 units; benchmarks: 14 for each standard",
+        5 => "length: bytes other than 10 + 6 states + 10 standards + 11 units; benchmarks: 14 for each standard",
         6 => "spare: a spare bit set",
         12 => "no time: theoretical time 0, or a time of a benchmark 0",
         20 => "above standard: a time of a benchmark above its standard's theoretical time",

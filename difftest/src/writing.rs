@@ -1,11 +1,11 @@
-//! R-2, writing logs, in plain Rust, written to be read beside it and not to be fast.
+//! R-2, writing logs, with the standards of R-5, in plain Rust, written to be read beside them and not to be fast.
 
 use crate::oracle::{account, Account};
 use crate::records::*;
 
 /// What an adding call hands back, the next writing position, and what it leaves in the buffer; or the refusal, which leaves the buffer as it was.
 pub fn add(buffer: &mut [u8], position: usize, record: &Record) -> Result<usize, Refusal> {
-    if !values_fit(record) {
+    if !record.too_wide().is_empty() {
         return Err(Refusal::new(22, record.list(), 0));
     }
     if !has_room(buffer, position, record) {
@@ -28,12 +28,6 @@ pub fn finish(buffer: &[u8], position: usize) -> Result<Account, Refusal> {
         return Err(Refusal::of_log(18));
     }
     account(&buffer[..position])
-}
-
-/// Is each value below 2 to the width of its field? What it means is not asked.
-fn values_fit(record: &Record) -> bool {
-    let fields = record.values().iter().zip(record.widths());
-    fields.into_iter().all(|(value, width)| *value < 1 << width)
 }
 
 /// Does the record end in the buffer? No position is so great that its end would wrap.

@@ -47,8 +47,8 @@ pub fn make(seed: u64, index: u64, log: &[u8], refused: Option<Refusal>) -> Vec<
     slices
 }
 
-/// Of each standard that the bytes hold, as far as they go. In a rising list it judges the units of its recipe from its
-/// start up to the next standard's, where that one is the recipe's too.
+/// Of each standard that the bytes hold, as far as they go. In a rising list it judges its module's units of its recipe from
+/// its start up to the next standard's, where that one is the module's and recipe's too.
 fn limits(log: &[u8]) -> Vec<Limits> {
     let (mut standards, mut units) = (Vec::new(), Vec::new());
     for record in records(log) {
@@ -59,13 +59,14 @@ fn limits(log: &[u8]) -> Vec<Limits> {
         }
     }
     let mut limits = Vec::new();
-    for (place, [recipe, start, theoretical]) in standards.iter().enumerate() {
+    for (place, [module, recipe, start, theoretical]) in standards.iter().enumerate() {
+        let own = (module, recipe);
         let end = match standards.get(place + 1) {
-            Some([next_recipe, next_start, _]) if next_recipe == recipe => *next_start,
+            Some([module, recipe, next_start, _]) if (module, recipe) == own => *next_start,
             _ => u64::MAX,
         };
-        let judged = units.iter().filter(|[_, other_recipe, time, ..]| {
-            other_recipe == recipe && start <= time && *time < end
+        let judged = units.iter().filter(|[module, recipe, time, ..]| {
+            (module, recipe) == own && start <= time && *time < end
         });
         let units: u64 = judged.map(|[.., effective]| effective).sum();
         // A refused log may have no time there, or more units than fit.

@@ -9,17 +9,31 @@ const LAST_TIME_OF_FIELD: u64 = (1 << 35) - 1;
 const MOST: [u64; 3] = [MOST_STATES, MOST_STANDARDS, MOST_UNITS];
 const LAST_COUNT_OF_FIELD: [u64; 3] = [(1 << 14) - 1, (1 << 11) - 1, (1 << 13) - 1];
 
-/// The refusals that a fault can bring. 10 and 19 have more kinds than the others, and come more often.
+/// The refusals that a fault can bring. Those of many kinds come more often.
 const OF_THE_HEADER: [u64; 5] = [1, 2, 3, 4, 5];
-const OF_THE_RECORDS: [u64; 15] = [6, 7, 8, 9, 10, 10, 11, 12, 13, 14, 15, 16, 19, 19, 19];
+const OF_THE_RECORDS: [u64; 20] = [
+    6, 6, 7, 7, 8, 9, 10, 10, 11, 12, 13, 14, 14, 15, 15, 15, 16, 19, 19, 19,
+];
 
-/// A copy of the draft with one fault, and its refusal.
+/// A fault that a draft has place for is found in most of so many tries.
+const TRIES: usize = 4;
+
+/// The refusals of a standard, in the sequence in which it is tested for them, that one of its own values brings.
+const OF_A_STANDARD: [u64; 4] = [6, 7, 9, 12];
+
+/// A copy of the draft with one fault, once in eight with several of a standard and the one behind it, and its refusal.
 pub fn one(rng: &mut Prng, draft: &Draft) -> (Draft, Refusal) {
     loop {
-        let number = number(rng, 4);
-        let mut damaged = draft.clone();
-        if let Some(refusal) = put(rng, number, &mut damaged) {
-            return (damaged, refusal);
+        let number = (!rng.once_in(8)).then(|| number(rng, 4));
+        for _ in 0..TRIES {
+            let mut damaged = draft.clone();
+            let refusal = match number {
+                Some(number) => put(rng, number, &mut damaged),
+                None => standards_of_several(rng, &mut damaged),
+            };
+            if let Some(refusal) = refusal {
+                return (damaged, refusal);
+            }
         }
     }
 }
@@ -137,12 +151,14 @@ fn counts(rng: &mut Prng, draft: &mut Draft) -> Option<Refusal> {
 fn length(rng: &mut Prng, draft: &mut Draft) -> Option<Refusal> {
     let counts = draft.counts();
     let right = due_length(counts);
-    match rng.below(4) {
+    match rng.below(5) {
         0 if right > HEADER_BYTES as usize => {
             let shorter = edge_or_between(rng, HEADER_BYTES, right as u64 - 1);
             draft.length = Some(shorter as usize);
         }
-        1 => {
+        // As long as before R-5, with 9 bytes for each standard.
+        1 if !draft.standards.is_empty() => draft.length = Some(right - draft.standards.len()),
+        2 => {
             let list = rng.index(3);
             let mut claimed = counts;
             claimed[list] = edge_or_between(rng, 0, MOST[list]);
@@ -174,30 +190,48 @@ pub fn spare_bits(rng: &mut Prng, width: u64) -> u64 {
 }
 
 fn spare(rng: &mut Prng, draft: &mut Draft) -> Option<Refusal> {
-    if rng.once_in(2) {
-        let place = place(rng, &draft.states)?;
-        draft.states[place].spare = spare_bits(rng, 2);
-        Some(Refusal::new(6, STATES, place))
-    } else {
-        let place = place(rng, &draft.units)?;
-        draft.units[place].spare = spare_bits(rng, 5);
-        Some(Refusal::new(6, UNITS, place))
+    match rng.below(3) {
+        0 => {
+            let place = place(rng, &draft.states)?;
+            draft.states[place].spare = spare_bits(rng, 2);
+            Some(Refusal::new(6, STATES, place))
+        }
+        1 => {
+            let place = place_of_standard(rng, draft)?;
+            draft.standards[place].spare = spare_bits(rng, 2);
+            Some(Refusal::new(6, STANDARDS, place))
+        }
+        _ => {
+            let place = place(rng, &draft.units)?;
+            draft.units[place].spare = spare_bits(rng, 5);
+            Some(Refusal::new(6, UNITS, place))
+        }
     }
 }
 
+/// A module at or above the count, none where every one that fits is below it.
+fn stray(rng: &mut Prng, draft: &Draft) -> Option<u64> {
+    (draft.modules < MOST_MODULES).then(|| edge_or_between(rng, draft.modules, MOST_MODULES - 1))
+}
+
 fn stray_module(rng: &mut Prng, draft: &mut Draft) -> Option<Refusal> {
-    if draft.modules >= MOST_MODULES {
-        return None;
-    }
-    let stray = edge_or_between(rng, draft.modules, MOST_MODULES - 1);
-    if rng.once_in(2) {
-        let place = place(rng, &draft.states)?;
-        draft.states[place].module = stray;
-        Some(Refusal::new(7, STATES, place))
-    } else {
-        let place = place(rng, &draft.units)?;
-        draft.units[place].module = stray;
-        Some(Refusal::new(7, UNITS, place))
+    let stray = stray(rng, draft)?;
+    match rng.below(3) {
+        0 => {
+            let place = place(rng, &draft.states)?;
+            draft.states[place].module = stray;
+            Some(Refusal::new(7, STATES, place))
+        }
+        1 => {
+            let place = place(rng, &draft.standards)?;
+            draft.standards[place].module = stray;
+            Some(Refusal::new(7, STANDARDS, place))
+        }
+        _ => {
+            let place = place(rng, &draft.units)?;
+            draft.units[place].module = stray;
+            Some(Refusal::new(7, UNITS, place))
+        }
     }
 }
 
@@ -207,8 +241,13 @@ fn stray_code(rng: &mut Prng, draft: &mut Draft) -> Option<Refusal> {
     Some(Refusal::new(8, STATES, place))
 }
 
+/// A time at or past the period.
+fn late(rng: &mut Prng, draft: &Draft) -> u64 {
+    edge_or_between(rng, draft.period, LAST_TIME_OF_FIELD)
+}
+
 fn outside(rng: &mut Prng, draft: &mut Draft) -> Option<Refusal> {
-    let late = edge_or_between(rng, draft.period, LAST_TIME_OF_FIELD);
+    let late = late(rng, draft);
     match rng.below(3) {
         0 => {
             let place = place(rng, &draft.states)?;
@@ -216,7 +255,7 @@ fn outside(rng: &mut Prng, draft: &mut Draft) -> Option<Refusal> {
             Some(Refusal::new(9, STATES, place))
         }
         1 => {
-            let place = place(rng, &draft.standards)?;
+            let place = place_of_standard(rng, draft)?;
             draft.standards[place].start = late;
             Some(Refusal::new(9, STANDARDS, place))
         }
@@ -297,28 +336,13 @@ fn unsorted(rng: &mut Prng, draft: &mut Draft) -> Option<Refusal> {
     }
 }
 
-/// The place of a standard made to stand behind a higher one. No earlier one has its recipe and start.
+/// The place of a standard made to stand behind a higher one. No earlier one has its module, recipe and start.
 fn unsorted_standard(rng: &mut Prng, draft: &mut Draft) -> Option<usize> {
     let place = later_place(rng, &draft.standards, MOST_STANDARDS)?;
-    let before = draft.standards[place - 1];
-    let (recipe, start) = match rng.below(3) {
-        // A lower recipe.
-        0 => {
-            let recipe = edge_or_between(rng, 0, before.recipe.checked_sub(1)?);
-            (recipe, rng.below(draft.period))
-        }
-        // The same recipe and an earlier start.
-        1 => {
-            let start = edge_or_between(rng, 0, before.start.checked_sub(1)?);
-            (before.recipe, start)
-        }
-        _ => return exchange(&mut draft.standards, place),
-    };
-    let standard = Standard {
-        recipe,
-        start,
-        theoretical: edge_or_between(rng, 1, LONGEST_THEORETICAL),
-    };
+    if rng.once_in(4) {
+        return exchange(&mut draft.standards, place);
+    }
+    let standard = lower_standard(rng, draft.period, &draft.standards[place - 1])?;
     let alike = |other: &Standard| other.key() == standard.key();
     if draft.standards[..place].iter().any(alike) {
         return None;
@@ -327,37 +351,54 @@ fn unsorted_standard(rng: &mut Prng, draft: &mut Draft) -> Option<usize> {
     Some(place)
 }
 
+/// A standard below another: by module, by recipe or by start. The fields behind are equal, not lower, or any.
+fn lower_standard(rng: &mut Prng, period: u64, before: &Standard) -> Option<Standard> {
+    let lower = |rng: &mut Prng, value: u64| Some(edge_or_between(rng, 0, value.checked_sub(1)?));
+    let (recipe, start) = match rng.below(3) {
+        0 => (before.recipe, before.start),
+        1 => {
+            let last = before.start.max(period.saturating_sub(1));
+            let recipe = rng.between(before.recipe, LAST_RECIPE);
+            (recipe, rng.between(before.start, last))
+        }
+        _ => (rng.below(LAST_RECIPE + 1), rng.below(period)),
+    };
+    let (module, recipe, start) = match rng.below(3) {
+        0 => (lower(rng, before.module)?, recipe, start),
+        1 => (before.module, lower(rng, before.recipe)?, start),
+        _ => (before.module, before.recipe, lower(rng, before.start)?),
+    };
+    Some(Standard {
+        module,
+        recipe,
+        start,
+        theoretical: edge_or_between(rng, 1, LONGEST_THEORETICAL),
+        spare: 0,
+    })
+}
+
 /// The place of a unit record made to stand behind a higher one or one alike. It has a standard in force.
 fn unsorted_unit(rng: &mut Prng, draft: &mut Draft) -> Option<usize> {
     let place = later_place(rng, &draft.units, MOST_UNITS)?;
     let before = draft.units[place - 1];
-    let any_module = rng.below(draft.modules.min(MOST_MODULES));
-    let (time, module, recipe) = match rng.below(5) {
+    let (time, (module, recipe)) = match rng.below(5) {
         // An earlier time.
         0 => {
             let time = edge_or_between(rng, 0, before.time.checked_sub(1)?);
-            (
-                time,
-                any_module,
-                recipe_up_to(rng, draft, LAST_RECIPE, time)?,
-            )
+            (time, begun(rng, draft, time, |_| true)?)
         }
         // The same time and a lower module.
         1 => {
-            let module = edge_or_between(rng, 0, before.module.checked_sub(1)?);
-            (
-                before.time,
-                module,
-                recipe_up_to(rng, draft, LAST_RECIPE, before.time)?,
-            )
+            let lower = |it: &Standard| it.module < before.module;
+            (before.time, begun(rng, draft, before.time, lower)?)
         }
         // The same time and module and a lower recipe.
         2 => {
-            let recipe = recipe_up_to(rng, draft, before.recipe.checked_sub(1)?, before.time)?;
-            (before.time, before.module, recipe)
+            let lower = |it: &Standard| it.module == before.module && it.recipe < before.recipe;
+            (before.time, begun(rng, draft, before.time, lower)?)
         }
         // All three alike.
-        3 => before.key(),
+        3 => (before.time, (before.module, before.recipe)),
         _ => return exchange(&mut draft.units, place),
     };
     let actual = if rng.once_in(2) {
@@ -377,15 +418,20 @@ fn unsorted_unit(rng: &mut Prng, draft: &mut Draft) -> Option<usize> {
     Some(place)
 }
 
-/// A recipe not above the highest that has a standard in force at the time.
-fn recipe_up_to(rng: &mut Prng, draft: &Draft, highest: u64, time: u64) -> Option<u64> {
-    let recipes: Vec<u64> = draft
+/// A module and a recipe that have a standard in force at the time, one of those that are wanted.
+fn begun(
+    rng: &mut Prng,
+    draft: &Draft,
+    time: u64,
+    wanted: impl Fn(&Standard) -> bool,
+) -> Option<Pair> {
+    let pairs: Vec<Pair> = draft
         .standards
         .iter()
-        .filter(|standard| standard.recipe <= highest && standard.start <= time)
-        .map(|standard| standard.recipe)
+        .filter(|standard| wanted(standard) && standard.start <= time)
+        .map(|standard| (standard.module, standard.recipe))
         .collect();
-    pick_one(rng, &recipes)
+    pick_one(rng, &pairs)
 }
 
 fn no_opening(rng: &mut Prng, draft: &mut Draft) -> Option<Refusal> {
@@ -430,9 +476,9 @@ fn place_of_standard(rng: &mut Prng, draft: &mut Draft) -> Option<usize> {
     }
 }
 
-/// The same of a unit record.
+/// The same of a unit record, once in two.
 fn place_of_unit(rng: &mut Prng, draft: &mut Draft) -> Option<usize> {
-    if rng.once_in(3) {
+    if rng.once_in(2) {
         unsorted_unit(rng, draft)
     } else {
         place(rng, &draft.units)
@@ -445,8 +491,13 @@ fn no_time(rng: &mut Prng, draft: &mut Draft) -> Option<Refusal> {
     Some(Refusal::new(12, STANDARDS, place))
 }
 
-/// A standard with recipe and start of its neighbour or of one further up.
 fn twice(rng: &mut Prng, draft: &mut Draft) -> Option<Refusal> {
+    let place = copied_standard(rng, draft)?;
+    Some(Refusal::new(13, STANDARDS, place))
+}
+
+/// The place of a standard made to have module, recipe and start of its neighbour or of one further up.
+fn copied_standard(rng: &mut Prng, draft: &mut Draft) -> Option<usize> {
     let place = later_place(rng, &draft.standards, MOST_STANDARDS)?;
     let first = if rng.once_in(3) {
         place - 1
@@ -458,7 +509,66 @@ fn twice(rng: &mut Prng, draft: &mut Draft) -> Option<Refusal> {
         ..draft.standards[first]
     };
     put_at(&mut draft.standards, MOST_STANDARDS, place, copy);
-    Some(Refusal::new(13, STANDARDS, place))
+    Some(place)
+}
+
+/// A standard with several faults, or with one and another of the standard behind it: the first that is tested for decides.
+fn standards_of_several(rng: &mut Prng, draft: &mut Draft) -> Option<Refusal> {
+    let (place, by_key) = match rng.below(3) {
+        0 => (place(rng, &draft.standards)?, None),
+        1 => (copied_standard(rng, draft)?, Some(13)),
+        _ => (unsorted_standard(rng, draft)?, Some(19)),
+    };
+    let mut standard = draft.standards[place];
+    let by_value = spoil(rng, draft, &mut standard);
+    draft.standards[place] = standard;
+    if rng.once_in(2) {
+        let behind = faulty_behind(rng, draft, place);
+        let count = draft.standards.len();
+        if place + 1 < count {
+            draft.standards[place + 1] = behind;
+        } else if (count as u64) < MOST_STANDARDS {
+            draft.standards.push(behind);
+        }
+    }
+    let number = by_value.or(by_key)?;
+    Some(Refusal::new(number, STANDARDS, place))
+}
+
+/// Puts no fault, one or any of them into the standard's own values; the first of them that is tested for.
+fn spoil(rng: &mut Prng, draft: &Draft, standard: &mut Standard) -> Option<u64> {
+    let mut numbers = OF_A_STANDARD.to_vec();
+    match rng.below(3) {
+        0 => numbers.clear(),
+        1 => numbers = vec![rng.pick(&numbers)],
+        _ => numbers.retain(|_| rng.once_in(2)),
+    }
+    let mut first = None;
+    for number in numbers {
+        match number {
+            6 => standard.spare = spare_bits(rng, 2),
+            7 => match stray(rng, draft) {
+                Some(stray) => standard.module = stray,
+                None => continue,
+            },
+            9 => standard.start = late(rng, draft),
+            _ => standard.theoretical = 0,
+        }
+        first = first.or(Some(number));
+    }
+    first
+}
+
+/// What stands behind a faulty standard: one like it or like one further up, one below it, or one with faults of its own.
+fn faulty_behind(rng: &mut Prng, draft: &Draft, place: usize) -> Standard {
+    let faulty = draft.standards[place];
+    let mut behind = match rng.below(3) {
+        0 => draft.standards[rng.index(place + 1)],
+        1 => lower_standard(rng, draft.period, &faulty).unwrap_or(faulty),
+        _ => *draft.standards.get(place + 1).unwrap_or(&faulty),
+    };
+    spoil(rng, draft, &mut behind);
+    behind
 }
 
 fn over_good(rng: &mut Prng, draft: &mut Draft) -> Option<Refusal> {
@@ -471,41 +581,68 @@ fn over_good(rng: &mut Prng, draft: &mut Draft) -> Option<Refusal> {
     Some(Refusal::new(14, UNITS, place))
 }
 
-/// A unit of a recipe that has no standard, or none that has begun.
+/// A unit of a module and recipe that have no standard, or none that has begun.
 fn no_standard(rng: &mut Prng, draft: &mut Draft) -> Option<Refusal> {
-    let unused = unused_recipe(rng, draft);
-    if draft.units.is_empty() {
+    let modules = draft.modules.min(MOST_MODULES);
+    let place = if draft.units.is_empty() {
+        let (module, recipe) = (rng.below(modules), rng.below(LAST_RECIPE + 1));
         let time = rng.below(draft.period.max(1));
         let actual = edge_or_between(rng, 0, MOST_OF_A_RECORD);
-        draft.unit(0, unused, time, actual, actual);
-        begin_later(rng, draft, unused, time);
-        return Some(Refusal::new(15, UNITS, 0));
-    }
-    let place = place_of_unit(rng, draft)?;
-    let UnitRecord { recipe, time, .. } = draft.units[place];
-    let of_recipe = draft
-        .standards
-        .iter()
-        .filter(|standard| standard.recipe == recipe);
-    match of_recipe.map(|standard| standard.start).min() {
-        Some(earliest) if earliest > 0 && rng.once_in(2) => {
-            draft.units[place].time = edge_or_between(rng, 0, earliest - 1);
+        draft.unit(module, recipe, time, actual, actual);
+        0
+    } else {
+        place_of_unit(rng, draft)?
+    };
+    let unit = draft.units[place];
+    let own = (unit.module, unit.recipe);
+    let ((module, recipe), time) = match rng.below(5) {
+        // Ahead of the first start.
+        0 => {
+            let of_both = |standard: &&Standard| (standard.module, standard.recipe) == own;
+            let starts = draft.standards.iter().filter(of_both).map(|it| it.start);
+            let earliest = starts.min()?.checked_sub(1)?;
+            (own, edge_or_between(rng, 0, earliest))
         }
+        // A recipe that the module has no standard of.
+        1 => {
+            let unused = unused_recipe(rng, draft, unit.module);
+            ((unit.module, unused), unit.time)
+        }
+        // A recipe that another module has a standard of.
+        2 => {
+            let (_, recipe) = begun(rng, draft, unit.time, |it| it.module != unit.module)?;
+            ((unit.module, recipe), unit.time)
+        }
+        // Another module.
+        3 => ((rng.below(modules), unit.recipe), unit.time),
+        // What a table would keep in the place of one that has a standard.
         _ => {
-            draft.units[place].recipe = unused;
-            begin_later(rng, draft, unused, time);
+            let one = begun(rng, draft, unit.time, |_| true)?;
+            let sharing = Table::any(rng).sharing(modules, one);
+            (pick_one(rng, &sharing)?, unit.time)
         }
+    };
+    if in_force(draft, module, recipe, time).is_some() {
+        return None;
     }
+    draft.units[place] = UnitRecord {
+        module,
+        recipe,
+        time,
+        ..unit
+    };
+    begin_later(rng, draft, (module, recipe), time);
     Some(Refusal::new(15, UNITS, place))
 }
 
-/// Once in two, and where there is place for it, a standard of the recipe that starts after the time.
-fn begin_later(rng: &mut Prng, draft: &mut Draft, recipe: u64, time: u64) {
+/// Once in two, and where there is place for it and none yet, a standard of the module and recipe that starts after the time.
+fn begin_later(rng: &mut Prng, draft: &mut Draft, pair: Pair, time: u64) {
     let room = (draft.standards.len() as u64) < MOST_STANDARDS && time + 1 < draft.period;
-    if room && rng.once_in(2) {
+    let (module, recipe) = pair;
+    if room && !has_standard(draft, module, recipe) && rng.once_in(2) {
         let start = edge_or_between(rng, time + 1, draft.period - 1);
         let theoretical = edge_or_between(rng, 1, LONGEST_THEORETICAL);
-        add_standard(draft, recipe, start, theoretical);
+        add_standard(draft, pair, start, theoretical);
     }
 }
 
@@ -513,7 +650,7 @@ fn begin_later(rng: &mut Prng, draft: &mut Draft, recipe: u64, time: u64) {
 fn room_of(draft: &Draft, module: u64) -> Option<u64> {
     let mut room = *production_times_of_any(draft)?.get(module as usize)?;
     for unit in draft.units.iter().filter(|unit| unit.module == module) {
-        let theoretical = in_force(draft, unit.recipe, unit.time)?;
+        let theoretical = in_force(draft, module, unit.recipe, unit.time)?;
         room = room.checked_sub(unit.actual * theoretical)?;
     }
     Some(room)
@@ -552,7 +689,7 @@ fn too_fast(rng: &mut Prng, draft: &mut Draft) -> Option<Refusal> {
             let theoretical = edge_or_between(rng, shortest, LONGEST_THEORETICAL);
             let actual = edge_or_between(rng, room / theoretical + 1, MOST_OF_A_RECORD);
             let start = rng.below(draft.period);
-            let recipe = new_standard(rng, draft, start, theoretical);
+            let recipe = new_standard(rng, draft, module, start, theoretical);
             let time = rng.between(start, draft.period - 1);
             add_units(draft, module, recipe, time, actual);
         }
@@ -560,10 +697,16 @@ fn too_fast(rng: &mut Prng, draft: &mut Draft) -> Option<Refusal> {
     Some(Refusal::new(16, NO_LIST, module as usize))
 }
 
-/// Adds a standard of an unused recipe.
-fn new_standard(rng: &mut Prng, draft: &mut Draft, start: u64, theoretical: u64) -> u64 {
-    let recipe = unused_recipe(rng, draft);
-    add_standard(draft, recipe, start, theoretical);
+/// Adds a standard of a recipe that the module has none of.
+fn new_standard(
+    rng: &mut Prng,
+    draft: &mut Draft,
+    module: u64,
+    start: u64,
+    theoretical: u64,
+) -> u64 {
+    let recipe = unused_recipe(rng, draft, module);
+    add_standard(draft, (module, recipe), start, theoretical);
     recipe
 }
 
@@ -583,7 +726,7 @@ fn add_units(draft: &mut Draft, module: u64, recipe: u64, time: u64, actual: u64
 /// So many units, a record each ms, that the module's sum, and with it the tool's, passes 2^53.
 fn far_too_fast(rng: &mut Prng, draft: &mut Draft, module: u64) -> Option<()> {
     let start = rng.below(draft.period.checked_sub(MOST_UNITS)?);
-    let recipe = new_standard(rng, draft, start, LONGEST_THEORETICAL);
+    let recipe = new_standard(rng, draft, module, start, LONGEST_THEORETICAL);
     let mut time = start;
     while (draft.units.len() as u64) < MOST_UNITS {
         add_units(draft, module, recipe, time, MOST_OF_A_RECORD);
@@ -596,7 +739,7 @@ fn far_too_fast(rng: &mut Prng, draft: &mut Draft, module: u64) -> Option<()> {
 fn raise_to_most(rng: &mut Prng, draft: &mut Draft) -> Option<Refusal> {
     let place = place(rng, &draft.units)?;
     let unit = draft.units[place];
-    let theoretical = in_force(draft, unit.recipe, unit.time)?;
+    let theoretical = in_force(draft, unit.module, unit.recipe, unit.time)?;
     let added = (MOST_OF_A_RECORD - unit.actual) * theoretical;
     if added <= room_of(draft, unit.module)? {
         return None;

@@ -70,10 +70,12 @@ fn loose(rng: &mut Prng) -> Draft {
         let code = rng.below(25);
         draft.state(module, code, time);
     }
-    for _ in 0..rng.below(5) {
-        let (recipe, start) = (rng.below(2), rng.below(draft.period + 1));
+    for _ in 0..rng.below(7) {
+        let stray = u64::from(rng.once_in(16));
+        let (module, recipe) = (rng.below(draft.modules + stray), rng.below(2));
+        let start = rng.below(draft.period + 1);
         let theoretical = rng.below(8).min(2);
-        draft.standard(recipe, start, theoretical);
+        draft.standard(module, recipe, start, theoretical);
     }
     for _ in 0..rng.below(5) {
         let (module, recipe) = (rng.below(draft.modules), rng.below(2));

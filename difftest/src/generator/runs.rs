@@ -5,7 +5,7 @@ use crate::oracle::BitReader;
 use crate::prng::Prng;
 use crate::records::*;
 
-const LONGEST_LOG: usize = 62_618;
+const LONGEST_LOG: usize = 63_130;
 
 /// Where a call adds its record.
 #[derive(Clone, Copy, Debug, PartialEq, Eq)]
@@ -70,7 +70,7 @@ pub fn records(log: &[u8]) -> Vec<Record> {
             read(Record::State([0; 3]));
         }
         for _ in 0..standards {
-            read(Record::Standard([0; 3]));
+            read(Record::Standard([0; 4]));
         }
         for _ in 0..units {
             read(Record::Unit([0; 5]));
@@ -151,7 +151,7 @@ fn of_single_calls(rng: &mut Prng) -> Run {
         4..=5 => rng.index(40),
         6 => rng.index(300),
         _ if rng.once_in(40) => LONGEST_LOG,
-        _ => 10 + 6 + 9 + 11,
+        _ => 10 + 6 + 10 + 11,
     };
     let calls = (0..rng.between(4, 16)).map(|_| single_call(rng, length));
     let calls = calls.collect();
@@ -240,12 +240,7 @@ fn bytes(rng: &mut Prng, length: usize) -> Vec<u8> {
 
 /// A record whose values fit their fields, whatever they mean.
 fn fitting_record(rng: &mut Prng) -> Record {
-    let mut record = rng.pick(&[
-        Record::Header([0; 5]),
-        Record::State([0; 3]),
-        Record::Standard([0; 3]),
-        Record::Unit([0; 5]),
-    ]);
+    let mut record = rng.pick(&KINDS);
     let widths = record.widths();
     for (value, width) in record.values_mut().iter_mut().zip(widths) {
         *value = fitting(rng, *width);

@@ -11,7 +11,12 @@ pub fn any(rng: &mut Prng, draft: &Draft) -> Draft {
         relist(rng, &mut listed.states, |it| (it.module, it.time));
     }
     if lists & 2 != 0 {
-        relist(rng, &mut listed.standards, |it| (it.start, it.recipe));
+        // For every module as it was before R-5, or by start.
+        let by_recipe = rng.once_in(2);
+        relist(rng, &mut listed.standards, |it| match by_recipe {
+            true => (it.recipe, it.start),
+            false => (it.start, it.recipe),
+        });
     }
     if lists & 4 != 0 {
         relist(rng, &mut listed.units, |it| (it.module, it.time));

@@ -16,14 +16,22 @@ const WEEK: u64 = 604_800_000;
 /// Once in so many logs a list is as long as it may be.
 const LARGE_ONCE_IN: u64 = 300;
 
-/// Once in so many others the recipes have years of revisions.
+/// Once in so many others there are as many standards as there may be.
+const FULL_ONCE_IN: u64 = 40;
+
+/// Once in so many others the recipes have years of revisions, and as often there are many modules and recipes.
 const REVISED_ONCE_IN: u64 = 10;
+const MANY_ONCE_IN: u64 = 10;
 
 pub fn draft(rng: &mut Prng) -> Draft {
     let sizes = if rng.once_in(LARGE_ONCE_IN) {
         Sizes::large(rng)
+    } else if rng.once_in(FULL_ONCE_IN) {
+        Sizes::full(rng)
     } else if rng.once_in(REVISED_ONCE_IN) {
         Sizes::revised(rng)
+    } else if rng.once_in(MANY_ONCE_IN) {
+        Sizes::many(rng)
     } else {
         Sizes::small(rng)
     };
@@ -53,7 +61,10 @@ struct Sizes {
     /// State records beside the openings; fewer where the period has no room for them.
     changes: u64,
     standards: u64,
-    recipes: u64,
+    /// Modules that the standards are of.
+    equipped: u64,
+    /// Recipes that the standards are of, counted for each module.
+    pairs: u64,
     units: u64,
 }
 
@@ -71,8 +82,13 @@ impl Sizes {
             period: period(rng),
             modules,
             changes: rng.between(0, modules * changes_each),
-            standards: if rng.once_in(8) { 0 } else { rng.between(1, 8) },
-            recipes: rng.between(1, 4),
+            standards: if rng.once_in(8) {
+                0
+            } else {
+                rng.between(1, 10)
+            },
+            equipped: equipped(rng, modules),
+            pairs: rng.between(1, 8),
             units: if rng.once_in(8) {
                 0
             } else {
@@ -81,14 +97,48 @@ impl Sizes {
         }
     }
 
-    /// A few recipes of many revisions each.
+    /// A few modules' recipes of many revisions each.
     fn revised(rng: &mut Prng) -> Sizes {
         Sizes {
             period: rng.pick(&[1_000, DAY, LONGEST_PERIOD]),
-            standards: rng.between(9, 150),
-            recipes: rng.between(1, 3),
+            standards: rng.between(9, 300),
+            pairs: rng.between(1, 3),
             units: rng.between(1, 60),
             ..Sizes::small(rng)
+        }
+    }
+
+    /// Many modules and recipes of a few revisions each.
+    fn many(rng: &mut Prng) -> Sizes {
+        let pairs = rng.between(7, 100);
+        Sizes {
+            period: rng.pick(&[1_000, DAY, LONGEST_PERIOD]),
+            standards: rng.between(pairs, 3 * pairs),
+            pairs,
+            units: rng.between(1, 60),
+            ..Sizes::small(rng)
+        }
+    }
+
+    /// Hundreds of revisions of one module's recipe, eight standards of each of 64 modules, or a few modules' hundreds of recipes.
+    fn full(rng: &mut Prng) -> Sizes {
+        let modules = rng.between(1, MOST_MODULES);
+        let (modules, equipped, pairs) = match rng.below(3) {
+            0 => (modules, 1, 1),
+            1 => (64, 64, 64 * rng.pick(&[1, 2, 4, 8])),
+            _ => {
+                let equipped = rng.between(1, modules.min(4));
+                (modules, equipped, rng.pick(&[128, 256, 512]))
+            }
+        };
+        Sizes {
+            period: rng.pick(&[DAY, LONGEST_PERIOD]),
+            modules,
+            changes: rng.between(0, modules),
+            standards: MOST_STANDARDS,
+            equipped,
+            pairs,
+            units: rng.between(1, 60),
         }
     }
 
@@ -102,9 +152,20 @@ impl Sizes {
             modules,
             changes: if short == 0 { 0 } else { MOST_STATES - modules },
             standards: if short == 1 { 1 } else { MOST_STANDARDS },
-            recipes: rng.pick(&[1, 2, 20, 300, 1_024]),
+            equipped: equipped(rng, modules),
+            pairs: rng.pick(&[1, 2, 20, 64, 256, 512]),
             units: if short == 2 { 0 } else { MOST_UNITS },
         }
+    }
+}
+
+/// Of so many modules all, one, a few or any number.
+fn equipped(rng: &mut Prng, modules: u64) -> u64 {
+    match rng.below(4) {
+        0 => modules,
+        1 => 1,
+        2 => rng.between(1, modules.min(4)),
+        _ => rng.between(1, modules),
     }
 }
 
@@ -247,29 +308,156 @@ fn theoretical(rng: &mut Prng) -> u64 {
     }
 }
 
+/// A module and a recipe.
+pub type Pair = (u64, u64);
+
 fn standards(rng: &mut Prng, sizes: &Sizes, moments: &[u64]) -> Vec<Standard> {
-    let mut recipes: Vec<u64> = (0..sizes.recipes)
-        .map(|_| rng.below(LAST_RECIPE + 1))
-        .collect();
-    recipes[0] = rng.pick(&[0, LAST_RECIPE, 1, 512]);
+    let pairs = if rng.once_in(3) {
+        sharing_places(rng, sizes)
+    } else {
+        by_modules(rng, sizes)
+    };
+    // As many revisions of each, or of some more than of others.
+    let in_turn = rng.once_in(2);
     let mut standards = BTreeMap::new();
     for _ in 0..4 * sizes.standards {
         if standards.len() as u64 == sizes.standards {
             break;
         }
+        let (module, recipe) = if in_turn {
+            pairs[standards.len() % pairs.len()]
+        } else {
+            rng.pick(&pairs)
+        };
         let standard = Standard {
-            recipe: rng.pick(&recipes),
+            module,
+            recipe,
             start: moment(rng, moments, sizes.period),
             theoretical: theoretical(rng),
+            spare: 0,
         };
         standards.insert(standard.key(), standard);
     }
     standards.into_values().collect()
 }
 
+/// Modules in turn, each with as many recipes, all with the same ones or each with its own of them.
+fn by_modules(rng: &mut Prng, sizes: &Sizes) -> Vec<Pair> {
+    let mut modules: Vec<u64> = (0..sizes.modules).collect();
+    rng.shuffle(&mut modules);
+    modules.truncate(sizes.equipped as usize);
+    let least = sizes.pairs.div_ceil(sizes.equipped);
+    let count = match rng.below(3) {
+        0 => least,
+        1 => rng.between(least, 2 * least),
+        _ => rng.between(least, LAST_RECIPE + 1),
+    };
+    let recipes = recipes(rng, count as usize);
+    let the_same = rng.once_in(2);
+    let first: Vec<usize> = modules
+        .iter()
+        .map(|_| {
+            if the_same {
+                0
+            } else {
+                rng.index(recipes.len())
+            }
+        })
+        .collect();
+    let pair = |number: usize| {
+        let (turn, at) = (number / modules.len(), number % modules.len());
+        (modules[at], recipes[(first[at] + turn) % recipes.len()])
+    };
+    (0..sizes.pairs as usize).map(pair).collect()
+}
+
+/// So many recipes: the lowest, or any, with one at an edge of the field ahead.
+fn recipes(rng: &mut Prng, count: usize) -> Vec<u64> {
+    let mut recipes: Vec<u64> = (0..=LAST_RECIPE).collect();
+    if !rng.once_in(3) {
+        let edge = rng.pick(&[0, LAST_RECIPE, 1, 512]);
+        rng.shuffle(&mut recipes);
+        recipes.retain(|recipe| *recipe != edge);
+        recipes.insert(0, edge);
+    }
+    recipes.truncate(count);
+    recipes
+}
+
+/// Groups of modules and recipes that a table would keep in one place: a lookup in it has to ask for both.
+fn sharing_places(rng: &mut Prng, sizes: &Sizes) -> Vec<Pair> {
+    let table = Table::any(rng);
+    let mut pairs = Vec::new();
+    while (pairs.len() as u64) < sizes.pairs {
+        let one = (rng.below(sizes.modules), rng.below(LAST_RECIPE + 1));
+        let mut sharing = table.sharing(sizes.modules, one);
+        rng.shuffle(&mut sharing);
+        sharing.truncate(rng.between(2, 8) as usize);
+        sharing.retain(|pair| !pairs.contains(pair));
+        pairs.extend(sharing);
+    }
+    pairs.truncate(sizes.pairs as usize);
+    pairs
+}
+
+/// The places of a table that numbers modules and recipes.
+pub struct Table {
+    size: u64,
+    of_module: u64,
+    of_recipe: u64,
+    bit_by_bit: bool,
+}
+
+impl Table {
+    pub fn any(rng: &mut Prng) -> Table {
+        let factors = [
+            (1, 1),
+            (2, 1),
+            (4, 1),
+            (8, 1),
+            (16, 1),
+            (16, 1),
+            (17, 1),
+            (31, 1),
+            (32, 1),
+            (64, 1),
+            (512, 1),
+            (1_024, 1),
+            (1, 16),
+            (1, 64),
+        ];
+        let (of_module, of_recipe) = rng.pick(&factors);
+        Table {
+            size: rng.pick(&[1_024, 2_048, 4_096]),
+            of_module,
+            of_recipe,
+            bit_by_bit: rng.once_in(4),
+        }
+    }
+
+    fn place(&self, (module, recipe): Pair) -> u64 {
+        let (of_module, of_recipe) = (self.of_module * module, self.of_recipe * recipe);
+        let number = if self.bit_by_bit {
+            of_module ^ of_recipe
+        } else {
+            of_module + of_recipe
+        };
+        number % self.size
+    }
+
+    /// Those of so many modules that have the place of this one, itself among them.
+    pub fn sharing(&self, modules: u64, one: Pair) -> Vec<Pair> {
+        let place = self.place(one);
+        let all = (0..modules).flat_map(|module| (0..=LAST_RECIPE).map(move |it| (module, it)));
+        all.filter(|pair| self.place(*pair) == place).collect()
+    }
+}
+
 /// The theoretical time in force, if any.
-pub fn in_force(draft: &Draft, recipe: u64, time: u64) -> Option<u64> {
-    let covering = |standard: &&Standard| standard.recipe == recipe && standard.start <= time;
+pub fn in_force(draft: &Draft, module: u64, recipe: u64, time: u64) -> Option<u64> {
+    let covering = |standard: &&Standard| {
+        standard.module == module && standard.recipe == recipe && standard.start <= time
+    };
     let latest = draft
         .standards
         .iter()
@@ -278,13 +466,19 @@ pub fn in_force(draft: &Draft, recipe: u64, time: u64) -> Option<u64> {
     latest.map(|standard| standard.theoretical)
 }
 
-pub fn unused_recipe(rng: &mut Prng, draft: &Draft) -> u64 {
-    let mut recipe = rng.below(LAST_RECIPE + 1);
-    while draft
-        .standards
-        .iter()
-        .any(|standard| standard.recipe == recipe)
-    {
+pub fn has_standard(draft: &Draft, module: u64, recipe: u64) -> bool {
+    let own = |standard: &Standard| standard.module == module && standard.recipe == recipe;
+    draft.standards.iter().any(own)
+}
+
+/// A recipe that the module has no standard of; once in two near one that there is a standard of.
+pub fn unused_recipe(rng: &mut Prng, draft: &Draft, module: u64) -> u64 {
+    let mut recipe = if draft.standards.is_empty() || rng.once_in(2) {
+        rng.below(LAST_RECIPE + 1)
+    } else {
+        rng.pick(&draft.standards).recipe
+    };
+    while has_standard(draft, module, recipe) {
         recipe = (recipe + 1) % (LAST_RECIPE + 1);
     }
     recipe
@@ -337,15 +531,16 @@ fn unit_records(
             break;
         }
         let standard = standard_to_meet(rng, &draft.standards);
+        let Standard { module, recipe, .. } = standard;
         let time = unit_time(rng, moments, sizes.period, standard.start);
-        let Some(theoretical) = in_force(draft, standard.recipe, time) else {
+        let Some(theoretical) = in_force(draft, module, recipe, time) else {
             continue;
         };
-        let module = rng.index(room.len());
-        if units.contains_key(&(time, module as u64, standard.recipe)) {
+        if units.contains_key(&(time, module, recipe)) {
             continue;
         }
-        let most = (room[module] / theoretical).min(MOST_OF_A_RECORD);
+        let room = &mut room[module as usize];
+        let most = (*room / theoretical).min(MOST_OF_A_RECORD);
         let actual = match rng.below(6) {
             _ if zero => 0,
             0 => 0,
@@ -353,10 +548,10 @@ fn unit_records(
             2 => rng.between(0, most),
             _ => rng.between(0, most.min(50)),
         };
-        room[module] -= actual * theoretical;
+        *room -= actual * theoretical;
         let unit = UnitRecord {
-            module: module as u64,
-            recipe: standard.recipe,
+            module,
+            recipe,
             time,
             actual,
             effective: effective(rng, actual),
@@ -368,11 +563,13 @@ fn unit_records(
 }
 
 /// Adds a standard where it belongs in a rising list.
-pub fn add_standard(draft: &mut Draft, recipe: u64, start: u64, theoretical: u64) {
+pub fn add_standard(draft: &mut Draft, (module, recipe): Pair, start: u64, theoretical: u64) {
     let standard = Standard {
+        module,
         recipe,
         start,
         theoretical,
+        spare: 0,
     };
     let place = draft
         .standards
@@ -404,12 +601,12 @@ pub fn fill(rng: &mut Prng, draft: &mut Draft, module: u64, time_for_units: u64)
     }
     let mut left = time_for_units;
     for theoretical in STEPS {
-        let recipe = unused_recipe(rng, draft);
+        let recipe = unused_recipe(rng, draft, module);
         let start = rng.below(draft.period);
         let time = rng.between(start, draft.period - 1);
         let actual = left / theoretical;
         left -= actual * theoretical;
-        add_standard(draft, recipe, start, theoretical);
+        add_standard(draft, (module, recipe), start, theoretical);
         let unit = UnitRecord {
             module,
             recipe,
