@@ -5,6 +5,34 @@ use crate::supplemental::Supplemental;
 use std::collections::BTreeMap;
 use std::fmt;
 
+/// What a log can be refused for, number and list. 17 cannot be met: after 16 no sum passes its bound. 18 is for a buffer.
+const OF_LOGS: [(u64, u64); 24] = [
+    (1, NO_LIST),
+    (2, NO_LIST),
+    (3, NO_LIST),
+    (4, NO_LIST),
+    (5, NO_LIST),
+    (6, STATES),
+    (6, STANDARDS),
+    (6, UNITS),
+    (7, STATES),
+    (7, STANDARDS),
+    (7, UNITS),
+    (8, STATES),
+    (9, STATES),
+    (9, STANDARDS),
+    (9, UNITS),
+    (10, STATES),
+    (11, NO_LIST),
+    (12, STANDARDS),
+    (13, STANDARDS),
+    (14, UNITS),
+    (15, UNITS),
+    (16, NO_LIST),
+    (19, STANDARDS),
+    (19, UNITS),
+];
+
 /// How many were accepted, and how many refused by number and list.
 #[derive(Default)]
 pub struct Verdicts {
@@ -27,17 +55,6 @@ impl Verdicts {
 
     fn met(&self, number: u64, list: u64) -> bool {
         self.refused.contains_key(&(number, list))
-    }
-
-    /// The numbers 1 to 16 and 19 that no log met, 19 where it was not met in both of its lists.
-    /// 17 cannot be met: after 16 no sum passes its bound.
-    fn never_met_of_logs(&self) -> Vec<u64> {
-        let met = |number: &u64| self.refused.keys().any(|(other, _)| other == number);
-        let missed_19 = (!self.met(19, STANDARDS) || !self.met(19, UNITS)).then_some(19);
-        (1..=16)
-            .filter(|number| !met(number))
-            .chain(missed_19)
-            .collect()
     }
 
     /// Those of number and list that were not met.
@@ -66,7 +83,9 @@ pub struct Tally {
     pub supplemental: Verdicts,
     above_zero: u64,
     /// Of the calls that write.
-    pub adding: Verdicts,
+    adding: Verdicts,
+    /// Those of one value that does not fit, by list and field.
+    too_wide_alone: BTreeMap<(u64, usize), u64>,
     pub finishing: Verdicts,
 }
 
@@ -81,18 +100,22 @@ impl Tally {
         self.above_zero += u64::from(above_zero);
     }
 
-    /// The numbers of the reader that no log met.
-    pub fn never_met(&self) -> Vec<u64> {
-        self.logs.never_met_of_logs()
+    pub fn count_adding<T>(&mut self, record: &Record, answer: &Result<T, Refusal>) {
+        self.adding.count(answer);
+        if let [field] = record.too_wide()[..] {
+            let field = (record.list(), field);
+            *self.too_wide_alone.entry(field).or_default() += 1;
+        }
+    }
+
+    /// The refusals of the reader that no log met.
+    pub fn never_met(&self) -> Vec<String> {
+        self.logs.never_met(&OF_LOGS)
     }
 
     /// The same, and 18 where no buffer was too short.
-    pub fn never_met_with_buffers(&self) -> Vec<u64> {
-        let short = if self.short_buffers == 0 {
-            Some(18)
-        } else {
-            None
-        };
+    pub fn never_met_with_buffers(&self) -> Vec<String> {
+        let short = (self.short_buffers == 0).then(|| String::from("18 list 0"));
         self.never_met().into_iter().chain(short).collect()
     }
 
@@ -105,30 +128,32 @@ impl Tally {
         missed.chain(of_log).chain(above_zero).collect()
     }
 
-    /// What no adding call met: 22 of each list, 18, and acceptance.
-    pub fn never_met_in_adding(&self) -> Vec<String> {
-        let due = [
-            (22, NO_LIST),
-            (22, STATES),
-            (22, STANDARDS),
-            (22, UNITS),
-            (18, NO_LIST),
-        ];
-        let accepted = (self.adding.accepted == 0).then(|| String::from("accepted"));
-        let missed = self.adding.never_met(&due).into_iter();
-        missed.chain(accepted).collect()
+    fn too_wide_by(&self, field: (u64, usize)) -> u64 {
+        *self.too_wide_alone.get(&field).unwrap_or(&0)
     }
 
-    /// What no finishing call met: the numbers of the reader, 18, and acceptance.
-    pub fn never_met_in_finishing(&self) -> Vec<String> {
-        let past_buffer = (!self.finishing.met(18, NO_LIST)).then_some(18);
-        let numbers = self.finishing.never_met_of_logs();
-        let accepted = (self.finishing.accepted == 0).then(|| String::from("accepted"));
-        let missed = numbers.into_iter().chain(past_buffer);
+    /// What no adding call met: 22 for each field alone, 18, and acceptance.
+    pub fn never_met_in_adding(&self) -> Vec<String> {
+        let mut missed = Vec::new();
+        for kind in KINDS {
+            for field in 0..kind.widths().len() {
+                let list = kind.list();
+                if self.too_wide_by((list, field)) == 0 {
+                    missed.push(format!("22 list {list} for field {field} alone"));
+                }
+            }
+        }
+        missed.extend(self.adding.never_met(&[(18, NO_LIST)]));
+        missed.extend((self.adding.accepted == 0).then(|| String::from("accepted")));
         missed
-            .map(|number| number.to_string())
-            .chain(accepted)
-            .collect()
+    }
+
+    /// What no finishing call met: the refusals of the reader, 18, and acceptance.
+    pub fn never_met_in_finishing(&self) -> Vec<String> {
+        let mut missed = self.finishing.never_met(&OF_LOGS);
+        missed.extend(self.finishing.never_met(&[(18, NO_LIST)]));
+        missed.extend((self.finishing.accepted == 0).then(|| String::from("accepted")));
+        missed
     }
 
     /// Of the calls for supplemental figures, those that the log itself was refused for.
@@ -155,6 +180,12 @@ impl Tally {
         let mut text = self.adding.summary("adding calls") + "\n";
         for ((number, list), count) in &self.adding.refused {
             text += &format!("refused {number} list {list}: {count} adding calls\n");
+        }
+        for kind in KINDS {
+            let fields = (0..kind.widths().len()).map(|field| (kind.list(), field));
+            let counts: Vec<u64> = fields.map(|field| self.too_wide_by(field)).collect();
+            let list = kind.list();
+            text += &format!("refused 22 list {list} for each value alone: {counts:?}\n");
         }
         text += &(self.finishing.summary("finishing calls") + "\n");
         let past_buffer = self.finishing.refused.get(&(18, NO_LIST)).unwrap_or(&0);

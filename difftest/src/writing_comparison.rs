@@ -83,7 +83,7 @@ impl Lent {
             Position::At(position) => position,
         };
         let expected = add(&mut self.due[self.buffer.clone()], position, &call.record);
-        tally.adding.count(&expected);
+        tally.count_adding(&call.record, &expected);
         let answer = library::put(&mut self.found[self.buffer.clone()], position, &call.record);
         let due_next = expected.map_or(UNTOUCHED, |next| next as u64);
         if expected.is_ok() {

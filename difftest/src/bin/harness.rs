@@ -11,7 +11,6 @@ use difftest::oracle::account;
 use difftest::supplemental::{answer, Judged};
 use difftest::tally::Tally;
 use difftest::writing_comparison::first_difference;
-use std::fmt::Debug;
 use std::process::ExitCode;
 
 /// Lines of differences that are printed.
@@ -71,9 +70,8 @@ fn main() -> ExitCode {
     );
     print!("{}", tally.supplemental());
     print!("{}", tally.writing());
-    let numbers = tally.never_met_with_buffers();
     let all_met = [
-        never_met("by a log", &numbers),
+        never_met("by a log", &tally.never_met_with_buffers()),
         never_met("by benchmarks", &tally.never_met_in_supplemental()),
         never_met("by an adding call", &tally.never_met_in_adding()),
         never_met("by a finishing call", &tally.never_met_in_finishing()),
@@ -85,7 +83,7 @@ fn main() -> ExitCode {
 }
 
 /// Prints what was missed; whether anything was.
-fn never_met<T: Debug>(by: &str, missed: &[T]) -> bool {
+fn never_met(by: &str, missed: &[String]) -> bool {
     if !missed.is_empty() {
         println!("never met {by}: {missed:?}");
     }
