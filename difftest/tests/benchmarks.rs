@@ -425,26 +425,34 @@ fn shapes(judged: &Judged, benchmarks: &[Benchmark]) -> Vec<String> {
         note(&format!("{name} on a half"), half);
         note(&format!("{name} past 32 bits"), sum > u64::from(u32::MAX));
     }
-    // Whose effective units each standard judges.
-    let modules_of = |standard: &Standard| {
-        let own = |unit: &&UnitRecord| unit.effective > 0 && standard_of(log, unit) == *standard;
-        log.units
-            .iter()
-            .filter(own)
-            .map(|unit| unit.module)
-            .collect::<BTreeSet<u64>>()
+    // Those that judge effective units.
+    let judges = |standard: &&Standard| {
+        let own = |unit: &UnitRecord| unit.effective > 0 && standard_of(log, unit) == **standard;
+        log.units.iter().any(own)
+    };
+    let judging: Vec<&Standard> = log.standards.iter().filter(judges).collect();
+    let two = |alike: &dyn Fn(&Standard, &Standard) -> bool| {
+        let with_later = judging.iter().enumerate();
+        with_later
+            .flat_map(|(at, one)| judging[at + 1..].iter().map(move |other| (one, other)))
+            .any(|(one, other)| alike(one, other))
     };
     note(
-        "units of several modules by one standard",
-        any(&|standard, _, _| modules_of(standard).len() > 1),
+        "units by several revisions of a module's recipe",
+        two(&|one, other| one.module == other.module && one.recipe == other.recipe),
     );
-    note("units by several revisions of a recipe", {
-        let judging = |standard: &&Standard| !modules_of(standard).is_empty();
-        let judging: Vec<&Standard> = log.standards.iter().filter(judging).collect();
-        judging
-            .windows(2)
-            .any(|pair| pair[0].recipe == pair[1].recipe)
-    });
+    note(
+        "units of one recipe by the standards of several modules",
+        two(&|one, other| one.module != other.module && one.recipe == other.recipe),
+    );
+    note(
+        "units of a recipe by the standards of several modules that have one start and other times",
+        two(&|one, other| {
+            one.module != other.module
+                && (one.recipe, one.start) == (other.recipe, other.start)
+                && one.theoretical != other.theoretical
+        }),
+    );
     shapes
 }
 
@@ -482,8 +490,9 @@ fn every_shape_is_met() {
             "units past 16 bits",
             "all equal",
             "a standard without units",
-            "units of several modules by one standard",
-            "units by several revisions of a recipe",
+            "units by several revisions of a module's recipe",
+            "units of one recipe by the standards of several modules",
+            "units of a recipe by the standards of several modules that have one start and other times",
         ]
         .map(String::from),
     );

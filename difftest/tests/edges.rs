@@ -1,8 +1,8 @@
-//! Document 01's case W and its edge cases, on the oracle.
+//! Document 01's case W and its edge cases, with the standards of R-5, on the oracle.
 
 use difftest::draft::Draft;
 use difftest::oracle::{
-    account, figures, in_force, last_in_force, ten_thousandths, Account, Quantities,
+    account, figures, in_force, last_in_force, read, ten_thousandths, Account, Quantities,
 };
 use difftest::records::*;
 
@@ -26,8 +26,8 @@ fn case_w() -> Draft {
     ] {
         draft.state(module, code, time);
     }
-    draft.standard(0, 0, 1_800_000);
     for (module, actual, effective) in [(0, 280, 261), (1, 290, 278), (2, 150, 150)] {
+        draft.standard(module, 0, 0, 1_800_000);
         draft.unit(module, 0, 3_600_000, actual, effective);
     }
     draft
@@ -41,7 +41,7 @@ fn bench(period: u64) -> Draft {
         ..Draft::default()
     };
     draft.state(0, 0, 0);
-    draft.standard(0, 0, 1);
+    draft.standard(0, 0, 0, 1);
     draft
 }
 
@@ -107,9 +107,9 @@ fn counts_and_length() {
     refused(&long, 4, 0, 0);
 
     let mut standards = bench(10_000);
-    (1..512).for_each(|start| standards.standard(0, start, 1));
+    (1..512).for_each(|start| standards.standard(0, 0, start, 1));
     assert!(judged(&standards).is_ok());
-    standards.standard(0, 512, 1);
+    standards.standard(0, 0, 512, 1);
     refused(&standards, 4, 0, 0);
 
     let mut units = bench(10_000);
@@ -119,7 +119,9 @@ fn counts_and_length() {
     refused(&units, 4, 0, 0);
 
     let length = case_w().bytes().len();
-    for wrong in [10, length - 1, length + 1, length + 70_000] {
+    assert_eq!(length, 121);
+    // 118 bytes it would have with 9 for each standard.
+    for wrong in [10, 118, length - 1, length + 1, length + 70_000] {
         refused(
             &Draft {
                 length: Some(wrong),
@@ -136,9 +138,9 @@ fn counts_and_length() {
 fn the_longest_log() {
     let mut longest = bench(LONGEST_PERIOD);
     (1..6_000).for_each(|time| longest.state(0, 0, time));
-    (1..512).for_each(|start| longest.standard(0, start, 1));
+    (1..512).for_each(|start| longest.standard(0, 0, start, 1));
     (0..2_000).for_each(|time| longest.unit(0, 0, time, 1, 1));
-    assert_eq!(longest.bytes().len(), 62_618);
+    assert_eq!(longest.bytes().len(), 63_130);
     assert!(judged(&longest).is_ok());
 }
 
@@ -228,53 +230,72 @@ fn states_of_one_time_by_module() {
 }
 
 #[test]
-fn standards_by_recipe_and_start() {
+fn standards_by_module_recipe_and_start() {
     let mut rising = bench(10);
+    rising.modules = 3;
+    rising.state(1, 0, 0);
+    rising.state(2, 0, 0);
     rising.standards.clear();
-    rising.standard(3, 5, 1);
-    rising.standard(3, 6, 1);
-    rising.standard(4, 0, 1);
+    rising.standard(0, 3, 5, 1);
+    rising.standard(0, 3, 6, 1);
+    rising.standard(0, 4, 0, 1);
+    // Recipe and start of the one before, of one further up, and below both: the module parts them.
+    rising.standard(1, 4, 0, 1);
+    rising.standard(2, 3, 5, 1);
+    rising.standard(2, 4, 0, 1);
     assert!(judged(&rising).is_ok());
 
-    for (recipe, start, number) in [
-        // A lower recipe, though a later start.
-        (3, 9, 19),
-        (0, 9, 19),
+    for (module, recipe, start, number) in [
+        // A lower module, with a higher recipe and a later start, with the same recipe, and with a lower one.
+        (1, 5, 9, 19),
+        (0, 1_023, 9, 19),
+        (0, 4, 1, 19),
+        (1, 3, 0, 19),
+        // The same module and a lower recipe, though a later start.
+        (2, 3, 9, 19),
+        (2, 0, 9, 19),
         // A start that the lower recipe has not yet.
-        (3, 0, 19),
-        // Equal to the neighbour, and to one further up.
-        (4, 0, 13),
-        (3, 6, 13),
-        (3, 5, 13),
+        (2, 3, 0, 19),
+        // Equal to the neighbour, and to ones further up, of this module and of others.
+        (2, 4, 0, 13),
+        (2, 3, 5, 13),
+        (1, 4, 0, 13),
+        (0, 4, 0, 13),
+        (0, 3, 5, 13),
+        // Recipe and start of others, of a module that does not have them: 1 has neither of 3, 0 not 5 of 4.
+        (1, 3, 5, 19),
+        (1, 3, 6, 19),
+        (0, 4, 5, 19),
     ] {
         let mut broken = rising.clone();
-        broken.standard(recipe, start, 1);
-        refused(&broken, number, STANDARDS, 3);
+        broken.standard(module, recipe, start, 1);
+        refused(&broken, number, STANDARDS, 6);
     }
-    // The same recipe and an earlier start.
+    // The same module and recipe and an earlier start.
     let mut earlier = bench(10);
     earlier.standards[0].start = 2;
-    earlier.standard(0, 1, 1);
+    earlier.standard(0, 0, 1, 1);
     refused(&earlier, 19, STANDARDS, 1);
-
-    // 9 and 12 come ahead of 19.
-    let mut lower = bench(10);
-    lower.standards[0].recipe = 5;
-    lower.standard(4, 10, 0);
-    refused(&lower, 9, STANDARDS, 1);
-    lower.standards[1].start = 9;
-    refused(&lower, 12, STANDARDS, 1);
-    lower.standards[1].theoretical = 1;
-    refused(&lower, 19, STANDARDS, 1);
+    // The lower module behind the higher, recipe and start equal: no 13.
+    let mut exchanged = bench(10);
+    exchanged.modules = 2;
+    exchanged.state(1, 0, 0);
+    exchanged.standard(1, 0, 0, 1);
+    assert!(judged(&exchanged).is_ok());
+    exchanged.standards.swap(0, 1);
+    refused(&exchanged, 19, STANDARDS, 1);
 
     // 19 of a standard comes ahead of a ground of the next one, also of its 13.
     let mut next = bench(10);
-    next.standard(5, 0, 1);
-    next.standard(4, 0, 1);
-    next.standard(4, 0, 0);
+    next.standard(0, 5, 0, 1);
+    next.standard(0, 4, 0, 1);
+    next.standard(0, 4, 0, 0);
     refused(&next, 19, STANDARDS, 2);
     next.standards[3].theoretical = 1;
     refused(&next, 19, STANDARDS, 2);
+    next.standards[3].module = 1;
+    refused(&next, 19, STANDARDS, 2);
+    next.standards[3].module = 0;
     // With that one in sequence, the next one's own is met.
     next.standards[2].recipe = 6;
     refused(&next, 19, STANDARDS, 3);
@@ -283,13 +304,184 @@ fn standards_by_recipe_and_start() {
     refused(&next, 19, STANDARDS, 3);
 }
 
+/// 6, 7, 9, 12, 13 and 19 in this sequence: of two in one standard the first decides.
+#[test]
+fn sequence_of_a_standards_grounds() {
+    let mut draft = bench(10);
+    draft.standards[0].recipe = 5;
+    draft.standard(0, 6, 0, 1);
+    draft.standard(1, 4, 10, 0);
+    draft.standards[2].spare = 2;
+    refused(&draft, 6, STANDARDS, 2);
+    draft.standards[2].spare = 1;
+    refused(&draft, 6, STANDARDS, 2);
+    draft.standards[2].spare = 0;
+    refused(&draft, 7, STANDARDS, 2);
+    draft.standards[2].start = 9;
+    refused(&draft, 7, STANDARDS, 2);
+    draft.standards[2].module = 0;
+    draft.standards[2].start = 10;
+    refused(&draft, 9, STANDARDS, 2);
+    draft.standards[2].theoretical = 1;
+    refused(&draft, 9, STANDARDS, 2);
+    draft.standards[2].theoretical = 0;
+    draft.standards[2].start = 0;
+    refused(&draft, 12, STANDARDS, 2);
+    // Equal to the first, and so out of sequence too.
+    draft.standards[2].recipe = 5;
+    refused(&draft, 12, STANDARDS, 2);
+    draft.standards[2].theoretical = 1;
+    refused(&draft, 13, STANDARDS, 2);
+    draft.standards[2].start = 1;
+    refused(&draft, 19, STANDARDS, 2);
+    draft.standards[2].spare = 1;
+    refused(&draft, 6, STANDARDS, 2);
+    draft.standards[2].spare = 0;
+    draft.standards[2].recipe = 6;
+    assert!(judged(&draft).is_ok());
+    // The standards come behind the states and ahead of the units.
+    draft.standards[2].module = 1;
+    draft.unit(1, 0, 0, 0, 1);
+    refused(&draft, 7, STANDARDS, 2);
+    draft.state(0, 0, 0);
+    refused(&draft, 10, STATES, 1);
+}
+
+#[test]
+fn spare_bits_and_module_of_a_standard() {
+    for spare in 1..4 {
+        let mut draft = bench(10);
+        draft.standards[0].spare = spare;
+        refused(&draft, 6, STANDARDS, 0);
+    }
+    for (modules, module) in [(1, 1), (1, 2), (1, 63), (3, 3), (3, 63), (63, 63)] {
+        let mut draft = bench(10);
+        draft.modules = modules;
+        (1..modules).for_each(|module| draft.state(module, 0, 0));
+        draft.standard(module, 0, 0, 1);
+        refused(&draft, 7, STANDARDS, 1);
+        draft.standards[1].module = modules - 1;
+        draft.standards[1].start = 1;
+        assert!(judged(&draft).is_ok(), "{modules}");
+    }
+}
+
+/// Fields one behind the other, most significant bit first, worked out by hand.
+#[test]
+fn a_standard_by_hand() {
+    let mut log = bench(10).bytes();
+    let at = log.len() - 10;
+    // Bits 0 to 5, 16 to 50 and 78 to 79.
+    log[at..].copy_from_slice(&[0xfc, 0, 0xff, 0xff, 0xff, 0xff, 0xe0, 0, 0, 0x03]);
+    let first = Standard {
+        module: 63,
+        recipe: 0,
+        start: (1 << 35) - 1,
+        theoretical: 0,
+        spare: 3,
+    };
+    assert_eq!(read(&log).expect("the right length").standards, [first]);
+    // Bits 6 to 15 and 51 to 77.
+    log[at..].copy_from_slice(&[0x03, 0xff, 0, 0, 0, 0, 0x1f, 0xff, 0xff, 0xfc]);
+    let second = Standard {
+        module: 0,
+        recipe: 1_023,
+        start: 0,
+        theoretical: (1 << 27) - 1,
+        spare: 0,
+    };
+    assert_eq!(read(&log).expect("the right length").standards, [second]);
+}
+
+/// Modules 0 and 1 share a recipe: 0 takes 5 ms and from 50 on 4, 1 takes 3 from 10 on and 2 from 20 on. 2 has another.
+fn two_chambers() -> Draft {
+    let mut draft = bench(100);
+    draft.modules = 3;
+    draft.state(1, 0, 0);
+    draft.state(2, 0, 0);
+    draft.standards.clear();
+    draft.standard(0, 7, 0, 5);
+    draft.standard(0, 7, 50, 4);
+    draft.standard(1, 7, 10, 3);
+    draft.standard(1, 7, 20, 2);
+    draft.standard(2, 8, 0, 1);
+    draft
+}
+
+#[test]
+fn each_module_by_its_own_standards() {
+    let mut draft = two_chambers();
+    for (time, actual) in [(10, 1), (19, 1), (20, 1), (49, 1), (50, 1)] {
+        draft.unit(0, 7, time, actual, actual);
+        draft.unit(1, 7, time, actual, actual);
+    }
+    draft.unit(2, 8, 99, 6, 0);
+    let account = judged(&draft).expect("accepted");
+    let actual = account.modules.iter().map(|sums| sums.quantities.actual);
+    // 5 + 5 + 5 + 5 + 4, 3 + 3 + 2 + 2 + 2, 6.
+    assert_eq!(actual.collect::<Vec<u64>>(), [24, 12, 6]);
+    assert_eq!(account.tool.quantities.actual, 42);
+    assert_eq!(account.tool.quantities.effective, 36);
+
+    // The slower chamber's rate is its own: 12 units of 5 ms and 10 of 4 take all of its time, one more is too much.
+    let mut full = two_chambers();
+    full.unit(0, 7, 0, 12, 0);
+    full.unit(0, 7, 50, 10, 0);
+    full.unit(1, 7, 50, 50, 0);
+    assert!(judged(&full).is_ok());
+    full.units[0].actual = 13;
+    refused(&full, 16, NO_LIST, 0);
+    full.units[0].actual = 12;
+    full.units[2].actual = 51;
+    refused(&full, 16, NO_LIST, 1);
+}
+
+#[test]
+fn no_standard_of_the_module() {
+    for (module, recipe, time) in [
+        // Lower modules alone have the recipe; a higher one alone.
+        (2, 7, 99),
+        (0, 8, 99),
+        (1, 8, 99),
+        // The module has other recipes alone.
+        (0, 6, 99),
+        (2, 9, 99),
+        // It has the recipe, but that has not begun, while another's has.
+        (1, 7, 9),
+        (1, 7, 0),
+    ] {
+        let mut draft = two_chambers();
+        draft.unit(module, recipe, time, 0, 0);
+        refused(&draft, 15, UNITS, 0);
+    }
+    // A module without standards makes nothing, or is refused.
+    let mut idle = two_chambers();
+    idle.standards.truncate(4);
+    idle.unit(1, 7, 10, 1, 1);
+    assert!(judged(&idle).is_ok());
+    idle.unit(2, 7, 10, 0, 0);
+    refused(&idle, 15, UNITS, 1);
+    // A lower and a higher module have the recipe, ahead of its own standards and behind them.
+    let mut between = two_chambers();
+    between.standards[2].recipe = 6;
+    between.standards[3].recipe = 8;
+    between.standards[4].recipe = 7;
+    between.unit(1, 7, 99, 0, 0);
+    refused(&between, 15, UNITS, 0);
+    between.standards[3].recipe = 7;
+    assert!(judged(&between).is_ok());
+}
+
 #[test]
 fn units_by_time_module_and_recipe() {
     let mut rising = bench(10);
     rising.modules = 2;
     rising.state(1, 0, 0);
-    rising.standard(1, 0, 1);
-    rising.standard(2, 2, 1);
+    rising.standard(0, 1, 0, 1);
+    rising.standard(0, 2, 2, 1);
+    rising.standard(1, 0, 0, 1);
+    rising.standard(1, 1, 0, 1);
+    rising.standard(1, 2, 2, 1);
     rising.unit(1, 0, 1, 1, 1);
     rising.unit(0, 2, 2, 1, 1);
     rising.unit(1, 0, 2, 1, 1);
@@ -354,8 +546,8 @@ fn openings() {
 fn a_unit_at_a_start() {
     let mut draft = bench(100);
     draft.standards.clear();
-    draft.standard(0, 20, 3);
-    draft.standard(0, 50, 2);
+    draft.standard(0, 0, 20, 3);
+    draft.standard(0, 0, 50, 2);
     let actual_at = |time| {
         let mut draft = draft.clone();
         draft.unit(0, 0, time, 1, 1);
@@ -370,14 +562,14 @@ fn a_unit_at_a_start() {
 #[test]
 fn grounds_of_standards_and_units() {
     let mut late = bench(10);
-    late.standard(1, 10, 0);
+    late.standard(0, 1, 10, 0);
     refused(&late, 9, STANDARDS, 1);
     let mut no_time = bench(10);
-    no_time.standard(0, 0, 0);
+    no_time.standard(0, 0, 0, 0);
     refused(&no_time, 12, STANDARDS, 1);
     let mut twice = bench(10);
-    twice.standard(1, 0, 5);
-    twice.standard(0, 0, 5);
+    twice.standard(0, 1, 0, 5);
+    twice.standard(0, 0, 0, 5);
     refused(&twice, 13, STANDARDS, 2);
 
     let mut good = bench(10);
@@ -445,6 +637,7 @@ fn the_longest_report() {
     let mut wide = bench(10);
     wide.modules = 64;
     (1..64).for_each(|module| wide.state(module, 0, 0));
+    (1..64).for_each(|module| wide.standard(module, 0, 0, 1));
     (0..64).for_each(|module| wide.unit(module, 0, 0, 1, 1));
     assert_eq!(judged(&wide).unwrap().report().len(), 2_494);
 }
@@ -460,15 +653,23 @@ fn sums_past_32_and_53_bits() {
 /// In a list that does not rise, which a log is refused for, R-3's walk may answer another standard than the one in force.
 #[test]
 fn the_walk_on_a_list_that_does_not_rise() {
-    let standard = |start, theoretical| Standard {
+    let standard = |module, start, theoretical| Standard {
+        module,
         recipe: 5,
         start,
         theoretical,
+        spare: 0,
     };
-    let unsorted = [standard(100, 7), standard(0, 8), standard(0, 9)];
-    assert_eq!(in_force(&unsorted, 5, 200), Some(standard(100, 7)));
-    assert_eq!(last_in_force(&unsorted, 5, 200), Some(standard(0, 9)));
-    assert_eq!(in_force(&unsorted, 5, 50), Some(standard(0, 8)));
-    assert_eq!(last_in_force(&unsorted, 5, 50), Some(standard(0, 9)));
-    assert_eq!(last_in_force(&unsorted, 4, 200), None);
+    let unsorted = [
+        standard(3, 100, 7),
+        standard(3, 0, 8),
+        standard(3, 0, 9),
+        standard(2, 0, 6),
+    ];
+    assert_eq!(in_force(&unsorted, 3, 5, 200), Some(unsorted[0]));
+    assert_eq!(last_in_force(&unsorted, 3, 5, 200), Some(unsorted[2]));
+    assert_eq!(in_force(&unsorted, 3, 5, 50), Some(unsorted[1]));
+    assert_eq!(last_in_force(&unsorted, 3, 5, 50), Some(unsorted[2]));
+    assert_eq!(last_in_force(&unsorted, 3, 4, 200), None);
+    assert_eq!(last_in_force(&unsorted, 1, 5, 200), None);
 }

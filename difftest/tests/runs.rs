@@ -92,7 +92,9 @@ fn every_refusal_is_met() {
     let mut tally = Tally::default();
     for index in 0..LOGS {
         for run in of_index(13, index) {
-            let (buffer, last) = run_on_oracle(&run, |_, _, answer| tally.adding.count(&answer));
+            let (buffer, last) = run_on_oracle(&run, |call, _, answer| {
+                tally.count_adding(&call.record, &answer)
+            });
             for position in [last].iter().chain(&run.finishing) {
                 tally.finishing.count(&finish(&buffer, *position));
             }
@@ -105,23 +107,66 @@ fn every_refusal_is_met() {
 #[test]
 fn a_tally_of_nothing_misses_all() {
     let mut tally = Tally::default();
-    assert_eq!(
-        tally.never_met_in_adding(),
-        [
-            "22 list 0",
-            "22 list 1",
-            "22 list 2",
-            "22 list 3",
-            "18 list 0",
-            "accepted"
-        ]
-    );
-    assert_eq!(tally.never_met_in_finishing().len(), 16 + 3);
-    tally.adding.count::<()>(&Err(Refusal::new(22, UNITS, 0)));
-    tally.adding.count(&Ok(6));
+    let due = tally.never_met_in_adding();
+    assert_eq!(due.len(), 5 + 3 + 4 + 5 + 2);
+    for missed in [
+        "22 list 0 for field 4 alone",
+        "22 list 1 for field 2 alone",
+        "22 list 2 for field 0 alone",
+        "22 list 2 for field 3 alone",
+        "22 list 3 for field 4 alone",
+        "18 list 0",
+        "accepted",
+    ] {
+        assert!(due.contains(&String::from(missed)), "{missed}");
+    }
+    // Two values too wide are neither's alone.
+    let mut count = |record: Record| {
+        let answer = add(&mut [0; 11], 0, &record);
+        tally.count_adding(&record, &answer);
+        tally.never_met_in_adding()
+    };
+    assert_eq!(count(Record::Standard([64, 1_024, 0, 0])), due);
+    let missed = count(Record::Standard([64, 0, 0, 0]));
+    assert_eq!(missed.len(), due.len() - 1);
+    assert!(!missed.contains(&String::from("22 list 2 for field 0 alone")));
+    let missed = count(Record::Standard([0; 4]));
+    assert_eq!(missed.last().map(String::as_str), Some("18 list 0"));
+}
+
+/// 6, 7 and 9 of each list apart, 19 of the standards and of the units.
+#[test]
+fn a_tally_of_no_logs_misses_all() {
+    let mut tally = Tally::default();
+    let refusals = [
+        (6, STATES),
+        (6, STANDARDS),
+        (6, UNITS),
+        (7, STATES),
+        (7, STANDARDS),
+        (7, UNITS),
+        (9, STATES),
+        (9, STANDARDS),
+        (9, UNITS),
+        (19, STANDARDS),
+        (19, UNITS),
+    ];
+    let mut left = 24;
+    assert_eq!(tally.never_met().len(), left);
+    for (number, list) in refusals {
+        let name = format!("{number} list {list}");
+        assert!(tally.never_met().contains(&name), "{name}");
+        tally.count::<()>(&Err(Refusal::new(number, list, 0)));
+        left -= 1;
+        assert!(!tally.never_met().contains(&name), "{name}");
+        assert_eq!(tally.never_met().len(), left);
+    }
+    // 18 and acceptance are due of finishing calls too.
+    assert_eq!(tally.never_met_with_buffers().len(), left + 1);
+    assert_eq!(tally.never_met_in_finishing().len(), 24 + 2);
     tally.finishing.count::<()>(&Err(Refusal::of_log(18)));
-    assert_eq!(tally.never_met_in_adding().len(), 4);
-    assert_eq!(tally.never_met_in_finishing().len(), 16 + 2);
+    tally.finishing.count(&Ok(()));
+    assert_eq!(tally.never_met_in_finishing().len(), 24);
 }
 
 /// What a value is to a field of so many bits.
@@ -196,7 +241,7 @@ fn places(position: usize, length: usize, size: usize) -> Vec<&'static str> {
 fn lengths(length: usize) -> Option<String> {
     match length {
         0..=12 => Some(length.to_string()),
-        62_618 => Some(String::from("of the longest log")),
+        63_130 => Some(String::from("of the longest log")),
         _ => None,
     }
 }
@@ -213,11 +258,7 @@ fn every_edge_is_met() {
                 let record = call.record;
                 let list = record.list();
                 let fields = record.values().iter().zip(record.widths()).enumerate();
-                let wide: Vec<usize> = fields
-                    .clone()
-                    .filter(|(_, (value, width))| **value >> **width != 0)
-                    .map(|(field, _)| field)
-                    .collect();
+                let wide = record.too_wide();
                 for (field, (value, width)) in fields {
                     let with = match (wide.contains(&field), wide.len()) {
                         (false, 0) => "written",
@@ -245,12 +286,7 @@ fn every_edge_is_met() {
     }
 
     let mut due = Vec::new();
-    for record in [
-        Record::Header([0; 5]),
-        Record::State([0; 3]),
-        Record::Standard([0; 3]),
-        Record::Unit([0; 5]),
-    ] {
+    for record in KINDS {
         let list = record.list();
         for (field, width) in record.widths().iter().enumerate() {
             let mut value = |class: &str, with: &str| {

@@ -198,7 +198,7 @@ fn etcher_by_each_standard() {
 #[test]
 fn longest_log_and_report() {
     let longest = log("longest");
-    assert_eq!(longest.len(), 62_618);
+    assert_eq!(longest.len(), 63_130);
     let header = Header {
         period: LONGEST_PERIOD,
         modules: MOST_MODULES,
@@ -261,7 +261,11 @@ fn lists_in_sequence() {
             "{path:?}"
         );
         assert!(
-            ascend(log.standards.iter().map(|it| (it.recipe, it.start))),
+            ascend(
+                log.standards
+                    .iter()
+                    .map(|it| (it.module, it.recipe, it.start))
+            ),
             "{path:?}"
         );
         assert!(

@@ -27,7 +27,7 @@ fn r1_3() -> Draft {
         (2, 5_000, 800, 800),
         (3, 6_667, 500, 480),
     ] {
-        draft.standard(recipe, 0, hours(theoretical));
+        draft.standard(0, recipe, 0, hours(theoretical));
         draft.unit(0, recipe, 0, actual, effective);
     }
     draft
@@ -66,7 +66,7 @@ fn bench() -> Draft {
         ..Draft::default()
     };
     draft.state(0, 0, 0);
-    draft.standard(0, 0, 6);
+    draft.standard(0, 0, 0, 6);
     draft.unit(0, 0, 0, 1_000, 900);
     draft
 }
@@ -211,7 +211,7 @@ fn total_effective_units_at_their_edges() {
     }
     // A standard that judges no unit.
     let mut idle = bench();
-    idle.standard(0, 1, 5);
+    idle.standard(0, 0, 1, 5);
     let first = benchmark([1, 1, 1], 0);
     refused(&idle, &[first, benchmark([1, 1, 1], 1)], 21, 1);
     let none = benchmark([5, 5, 5], 0);
@@ -269,32 +269,40 @@ fn the_log_comes_first() {
     assert_eq!(supplemental(&[], &[]), Err(Refusal::of_log(1)));
 }
 
-/// Two modules, of which the second made 20 more of recipe 0's first revision, and revisions whose units are each
-/// judged by their own.
+/// Two modules with standards of their own for recipe 0, and revisions whose units are each judged by their own.
 #[test]
-fn units_of_all_modules_by_their_own_standard() {
+fn units_by_their_own_modules_standard() {
     let mut draft = bench();
     draft.modules = 2;
     draft.state(1, 0, 0);
-    draft.standard(0, 500, 4);
-    draft.standard(9, 0, 10);
+    draft.standard(0, 0, 500, 4);
+    draft.standard(1, 0, 0, 5);
+    draft.standard(1, 9, 0, 10);
     draft.unit(1, 0, 499, 20, 20);
     draft.unit(0, 0, 500, 40, 30);
     draft.unit(1, 0, 9_999, 50, 50);
     draft.unit(1, 9, 9_999, 100, 100);
-    // 920 by the first, 80 by the second, 100 by the third; the tool's total time is 20,000.
+    // 900 by the first, 30 by the second, 70 by the third, 100 by the fourth; the tool's total time is 20,000.
     let benchmarks = [
-        benchmark([6, 5, 1], 920),
-        benchmark([4, 3, 2], 80),
+        benchmark([6, 5, 1], 900),
+        benchmark([4, 3, 2], 30),
+        benchmark([5, 2, 4], 69),
         benchmark([10, 1, 3], 99),
     ];
-    // 5,520 + 320 + 1,000; 4,600 + 240 + 100; 920 + 160 + 300; 920 by 6 and 80 by 4 and 99 by 10.
-    let sums = [6_840, 4_940, 1_380, 6_830];
-    assert_eq!(answer(&draft, &benchmarks), Ok(sums.map(|sum| sum / 2)));
-    for (place, units) in [(0, 921), (1, 81), (2, 101)] {
+    // 5,400 + 120 + 350 + 1,000; 4,500 + 90 + 140 + 100; 900 + 60 + 280 + 300; 900 by 6, 30 by 4, 69 by 5 and 99 by 10.
+    let sums = [6_870, 4_830, 1_540, 6_855];
+    let figures = sums.map(|sum: u64| sum.div_ceil(2));
+    assert_eq!(answer(&draft, &benchmarks), Ok(figures));
+    for (place, units) in [(0, 901), (1, 31), (2, 71), (3, 101)] {
         let mut over = benchmarks;
         over[place].total_effective = units;
         refused(&draft, &over, 21, place);
+    }
+    // The other module's time for the recipe is no bound: 5 of module 1 is above module 0's 4, 6 of module 0 above module 1's 5.
+    for (place, time) in [(1, 5), (2, 6)] {
+        let mut above = benchmarks;
+        above[place].times[0] = time;
+        refused(&draft, &above, 20, place);
     }
 }
 
@@ -321,13 +329,17 @@ fn the_greatest_figures() {
     };
     (0..64).for_each(|module| whole.state(module, 0, 0));
     // 31,622,400,000 ms are 40,960 times 772,031.25: 64 modules make 40,960 units of 772,031 ms each.
-    whole.standard(0, 0, 772_031);
+    (0..64).for_each(|module| whole.standard(module, 0, 0, 772_031));
     (0..64).for_each(|module| whole.unit(module, 0, 0, 40_960, 40_960));
-    let equal = benchmark([772_031; 3], 64 * 40_960);
-    assert_eq!(answer(&whole, &[equal]), Ok([10_000; 4]));
+    let equal = benchmark([772_031; 3], 40_960);
+    assert_eq!(answer(&whole, &[equal; 64]), Ok([10_000; 4]));
     // Half of it by the time and by the units; 1 ms a unit; 1 ms a unit less.
-    let less = benchmark([386_015, 1, 772_030], 1_310_720);
-    assert_eq!(answer(&whole, &[less]), Ok([5_000, 0, 10_000, 5_000]));
+    let less = benchmark([386_015, 1, 772_030], 20_480);
+    assert_eq!(answer(&whole, &[less; 64]), Ok([5_000, 0, 10_000, 5_000]));
+    // Each module's units are its own standard's alone.
+    let mut over = [less; 64];
+    over[63].total_effective = 40_961;
+    refused(&whole, &over, 21, 63);
 }
 
 /// In the card's words, with where it points to.

@@ -1,4 +1,5 @@
-//! R-2 on its oracle: records packed by hand, refusals at their edges, and logs written from their own records.
+//! R-2, with the standards of R-5, on its oracle: records packed by hand, refusals at their edges, and logs written from their
+//! own records.
 
 use difftest::generator::runs::records;
 use difftest::generator::{make, Expected};
@@ -9,13 +10,6 @@ use std::fs;
 use std::path::PathBuf;
 
 const LOGS: u64 = 5_000;
-
-const KINDS: [Record; 4] = [
-    Record::Header([0; 5]),
-    Record::State([0; 3]),
-    Record::Standard([0; 3]),
-    Record::Unit([0; 5]),
-];
 
 fn sample(name: &str) -> Vec<u8> {
     let path = PathBuf::from(env!("CARGO_MANIFEST_DIR")).join("../samples");
@@ -70,15 +64,20 @@ fn packed_by_hand() {
         packed(Record::State([1, 2, 3])),
         [0x04, 0x40, 0, 0, 0, 0x0c]
     );
-    // Ten bits set, 35 clear, 27 set.
+    // Bits 0 to 5 and 16 to 50.
     assert_eq!(
-        packed(Record::Standard([1_023, 0, (1 << 27) - 1])),
-        [0xff, 0xc0, 0, 0, 0, 0x07, 0xff, 0xff, 0xff]
+        packed(Record::Standard([63, 0, (1 << 35) - 1, 0])),
+        [0xfc, 0, 0xff, 0xff, 0xff, 0xff, 0xe0, 0, 0, 0]
     );
-    // Bits 10 to 44.
+    // Bits 6 to 15 and 51 to 77, then 00.
     assert_eq!(
-        packed(Record::Standard([0, (1 << 35) - 1, 0])),
-        [0, 0x3f, 0xff, 0xff, 0xff, 0xf8, 0, 0, 0]
+        packed(Record::Standard([0, 1_023, 0, (1 << 27) - 1])),
+        [0x03, 0xff, 0, 0, 0, 0, 0x1f, 0xff, 0xff, 0xfc]
+    );
+    // Bits 5, 15, 50 and 77.
+    assert_eq!(
+        packed(Record::Standard([1, 1, 1, 1])),
+        [0x04, 0x01, 0, 0, 0, 0, 0x20, 0, 0, 0x04]
     );
     // Bits 0 to 5, 16 to 50 and 67 to 82.
     assert_eq!(
@@ -95,7 +94,7 @@ fn packed_by_hand() {
 /// Spare bits and all, the widths make up the lengths.
 #[test]
 fn widths_and_lengths() {
-    for (record, length) in KINDS.into_iter().zip([10, 6, 9, 11]) {
+    for (record, length) in KINDS.into_iter().zip([10, 6, 10, 11]) {
         let bits: u32 = record.widths().iter().sum();
         assert_eq!(bits + record.spare(), 8 * length);
         assert_eq!(record.length(), length as usize);
@@ -107,7 +106,7 @@ fn widths_and_lengths() {
 #[test]
 fn case_w() {
     let records = [
-        Record::Header([604_800_000, 3, 8, 1, 3]),
+        Record::Header([604_800_000, 3, 8, 3, 3]),
         Record::State([0, 0, 0]),
         Record::State([1, 0, 0]),
         Record::State([2, 0, 0]),
@@ -116,24 +115,26 @@ fn case_w() {
         Record::State([0, 7, 540_000_000]),
         Record::State([1, 18, 568_800_000]),
         Record::State([0, 18, 586_800_000]),
-        Record::Standard([0, 0, 1_800_000]),
+        Record::Standard([0, 0, 0, 1_800_000]),
+        Record::Standard([1, 0, 0, 1_800_000]),
+        Record::Standard([2, 0, 0, 1_800_000]),
         Record::Unit([0, 0, 3_600_000, 280, 261]),
         Record::Unit([1, 0, 3_600_000, 290, 278]),
         Record::Unit([2, 0, 3_600_000, 150, 150]),
     ];
-    let mut buffer = [0xa5; 105];
-    assert_eq!(write(&mut buffer, &records), 100);
-    assert_eq!(buffer[..100], sample("case-w"));
-    assert_eq!(buffer[100..], [0xa5; 5]);
-    let account = finish(&buffer, 100).expect("accepted");
+    let mut buffer = [0xa5; 126];
+    assert_eq!(write(&mut buffer, &records), 121);
+    assert_eq!(buffer[..121], sample("case-w"));
+    assert_eq!(buffer[121..], [0xa5; 5]);
+    let account = finish(&buffer, 121).expect("accepted");
     assert_eq!(account.tool.quantities.array()[0], 3 * 604_800_000);
     // Before its end it is no log, and neither behind it.
     assert_eq!(finish(&buffer, 0).err(), Some(Refusal::of_log(1)));
     assert_eq!(finish(&buffer, 9).err(), Some(Refusal::of_log(1)));
-    for position in [10, 99, 101, 105] {
+    for position in [10, 118, 120, 122, 126] {
         assert_eq!(finish(&buffer, position).err(), Some(Refusal::of_log(5)));
     }
-    for position in [106, 1 << 32, usize::MAX] {
+    for position in [127, 1 << 32, usize::MAX] {
         assert_eq!(finish(&buffer, position).err(), Some(Refusal::of_log(18)));
     }
 }
@@ -156,6 +157,31 @@ fn each_field_too_wide() {
             assert_eq!(add(&mut [0xa5; 11], 0, &record), Ok(record.length()));
         }
     }
+}
+
+/// The module of a standard comes first, and its own values decide whatever the buffer and the others are.
+#[test]
+fn module_of_a_standard_too_wide() {
+    let too_wide = Refusal::new(22, STANDARDS, 0);
+    for module in [64, 65, 127, 128, 1_023, 1_024, 1 << 32, 1 << 63, u64::MAX] {
+        for values in [
+            [module, 0, 0, 0],
+            [module, 1_023, (1 << 35) - 1, (1 << 27) - 1],
+            [module, 1_024, 1 << 35, 1 << 27],
+        ] {
+            let record = Record::Standard(values);
+            for length in [0, 9, 10, 11] {
+                refused(&mut vec![0xa5; length], 0, &record, too_wide);
+            }
+        }
+    }
+    // Recipe and module in each other's place: 64 is no module, though a recipe.
+    let exchanged = Record::Standard([64, 63, 0, 1]);
+    refused(&mut [0xa5; 10], 0, &exchanged, too_wide);
+    assert_eq!(
+        packed(Record::Standard([63, 64, 0, 1])),
+        [0xfc, 0x40, 0, 0, 0, 0, 0, 0, 0, 0x04]
+    );
 }
 
 /// Values that mean nothing are written; finishing meets them.
@@ -266,7 +292,7 @@ fn logs_from_their_own_records() {
         says.extend(
             said.standards
                 .iter()
-                .map(|it| Record::Standard([it.recipe, it.start, it.theoretical])),
+                .map(|it| Record::Standard([it.module, it.recipe, it.start, it.theoretical])),
         );
         says.extend(
             said.units
@@ -284,10 +310,10 @@ fn logs_from_their_own_records() {
 fn samples_from_their_own_records() {
     let longest = sample("longest");
     let mut buffer = vec![0xff; longest.len() + 1];
-    assert_eq!(write(&mut buffer, &records(&longest)), 62_618);
-    assert!(buffer[..62_618] == longest);
-    assert!(finish(&buffer, 62_618).is_ok());
-    assert_eq!(finish(&buffer, 62_619).err(), Some(Refusal::of_log(5)));
+    assert_eq!(write(&mut buffer, &records(&longest)), 63_130);
+    assert!(buffer[..63_130] == longest);
+    assert!(finish(&buffer, 63_130).is_ok());
+    assert_eq!(finish(&buffer, 63_131).err(), Some(Refusal::of_log(5)));
 
     let spare = sample("refused-spare");
     assert_eq!(account(&spare).err(), Some(Refusal::new(6, UNITS, 2)));
