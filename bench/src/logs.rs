@@ -15,11 +15,11 @@ pub struct Variant {
 pub fn variants() -> Vec<Variant> {
     vec![
         Variant {
-            name: "longest, last standard of one recipe",
-            log: longest_one_recipe(),
+            name: "longest, last standard",
+            log: longest_last_standard(),
         },
         Variant {
-            name: "longest, many recipes and times",
+            name: "longest, many recipes",
             log: longest_many_recipes(),
         },
         Variant {
@@ -27,7 +27,7 @@ pub fn variants() -> Vec<Variant> {
             log: longest_units_anywhere(),
         },
         Variant {
-            name: "longest, first standard of one recipe",
+            name: "longest, one recipe, first standard",
             log: longest_first_standard(),
         },
         Variant {
@@ -62,63 +62,65 @@ fn longest(rng: &mut Prng) -> Draft {
     draft
 }
 
-/// 512 revisions of one recipe, every unit behind the last of them.
-fn longest_one_recipe() -> Vec<u8> {
+/// A unit record of up to 50 units.
+fn unit(rng: &mut Prng, draft: &mut Draft, module: u64, recipe: u64, time: u64) {
+    let actual = rng.between(1, 50);
+    draft.unit(module, recipe, time, actual, rng.between(0, actual));
+}
+
+/// Eight revisions of one recipe at each module, every unit behind the last of them.
+fn longest_last_standard() -> Vec<u8> {
     let rng = &mut Prng::new(1, 0);
     let mut draft = longest(rng);
-    for revision in 0..MOST_STANDARDS {
-        draft.standard(7, revision * 1_000_000, 200_000 - revision);
+    for standard in 0..MOST_STANDARDS {
+        let (module, revision) = (standard / 8, standard % 8);
+        let start = revision * 64_000_000 + module * 1_000_000;
+        draft.standard(module, 7, start, 200_000 - standard);
     }
     for _ in 0..MOST_UNITS {
         let time = rng.between(511 * 1_000_000, LONGEST_PERIOD - 1);
-        let actual = rng.between(1, 50);
-        draft.unit(
-            rng.below(MOST_MODULES),
-            7,
-            time,
-            actual,
-            rng.between(0, actual),
-        );
+        let module = rng.below(MOST_MODULES);
+        unit(rng, &mut draft, module, 7, time);
     }
     draft.sort();
     draft.bytes()
 }
 
-/// 128 recipes of four revisions each, units anywhere.
+/// 16 modules with 16 recipes of two revisions each, units anywhere.
 fn longest_many_recipes() -> Vec<u8> {
     let rng = &mut Prng::new(2, 0);
     let mut draft = longest(rng);
-    for standard in 0..MOST_STANDARDS {
-        let (recipe, revision) = (standard / 4, standard % 4);
-        let start = revision * (LONGEST_PERIOD / 4) + revision * rng.below(1_000_000);
-        draft.standard(8 * recipe, start, rng.between(50_000, 300_000));
+    let mut modules: Vec<u64> = (0..MOST_MODULES).collect();
+    rng.shuffle(&mut modules);
+    let mut pairs = Vec::new();
+    for &module in &modules[..16] {
+        let mut recipes: Vec<u64> = (0..1_024).collect();
+        rng.shuffle(&mut recipes);
+        pairs.extend(recipes[..16].iter().map(|&recipe| (module, recipe)));
+    }
+    for &(module, recipe) in &pairs {
+        draft.standard(module, recipe, 0, rng.between(50_000, 300_000));
+        let start = LONGEST_PERIOD / 2 + rng.below(1_000_000);
+        draft.standard(module, recipe, start, rng.between(50_000, 300_000));
     }
     for _ in 0..MOST_UNITS {
-        let (module, recipe) = (rng.below(MOST_MODULES), 8 * rng.below(128));
-        let actual = rng.between(1, 50);
-        draft.unit(
-            module,
-            recipe,
-            rng.below(LONGEST_PERIOD),
-            actual,
-            rng.between(0, actual),
-        );
+        let ((module, recipe), time) = (rng.pick(&pairs), rng.below(LONGEST_PERIOD));
+        unit(rng, &mut draft, module, recipe, time);
     }
     draft.sort();
     draft.bytes()
 }
 
-/// 512 revisions of one recipe with these starts, units anywhere before a time.
+/// 512 revisions of one module's recipe with these starts, its units anywhere before a time.
 fn longest_units_before(end: u64, start: impl Fn(u64) -> u64) -> Vec<u8> {
     let rng = &mut Prng::new(4, 0);
     let mut draft = longest(rng);
     for revision in 0..MOST_STANDARDS {
-        draft.standard(7, start(revision), 200_000 - revision);
+        draft.standard(40, 7, start(revision), 200_000 - revision);
     }
     for _ in 0..MOST_UNITS {
-        let (module, time) = (rng.below(MOST_MODULES), rng.below(end));
-        let actual = rng.between(1, 50);
-        draft.unit(module, 7, time, actual, rng.between(0, actual));
+        let time = rng.below(end);
+        unit(rng, &mut draft, 40, 7, time);
     }
     draft.sort();
     draft.bytes()
@@ -138,7 +140,7 @@ fn longest_first_standard() -> Vec<u8> {
     })
 }
 
-/// 170 state records, 8 standards of 5 recipes, 120 lots of 25 wafers by time.
+/// 170 state records, three recipes at each module but the last, which has two, 120 lots of 25 wafers by time.
 fn typical() -> Vec<u8> {
     let rng = &mut Prng::new(3, 0);
     let mut draft = Draft {
@@ -147,15 +149,17 @@ fn typical() -> Vec<u8> {
         ..Draft::default()
     };
     state_records(rng, &mut draft, 170);
-    for recipe in 0..5 {
-        draft.standard(recipe, 0, (2 + recipe) * MINUTE);
-    }
-    for recipe in 0..3 {
-        draft.standard(recipe, WEEK / 2, (2 + recipe) * MINUTE - 10_000);
+    let recipes = |module: u64| if module < 2 { 3 } else { 2 };
+    for module in 0..3 {
+        for recipe in 0..recipes(module) {
+            let seconds = 10 * module;
+            draft.standard(module, recipe, 0, (2 + recipe) * MINUTE - 1_000 * seconds);
+        }
     }
     for lot in 0..120 {
-        let time = (lot + 1) * (WEEK / 121);
-        draft.unit(lot % 3, rng.below(5), time, 25, 25 - rng.below(2));
+        let (module, time) = (lot % 3, (lot + 1) * (WEEK / 121));
+        let recipe = rng.below(recipes(module));
+        draft.unit(module, recipe, time, 25, 25 - rng.below(2));
     }
     draft.sort();
     draft.bytes()

@@ -99,8 +99,18 @@ pub struct Times {
     pub production: [u64; MODULES],
 }
 
-/// One pass over the state records: grounds 6 to 11 and the times.
-pub fn times(lists: &Lists) -> Result<Times, Refusal> {
+impl Times {
+    pub fn none() -> Times {
+        Times {
+            uptime: [0; MODULES],
+            production: [0; MODULES],
+        }
+    }
+}
+
+/// One pass over the state records: grounds 6 to 11 and the times. Inlined it takes longer.
+#[inline(never)]
+pub fn add_states(lists: &Lists, times: &mut Times) -> Result<(), Refusal> {
     let records = records::<6>(lists.states);
     let mut open = [0u64; MODULES];
     let openings = openings(lists, records, &mut open)?;
@@ -133,10 +143,6 @@ pub fn times(lists: &Lists) -> Result<Times, Refusal> {
     if missing != 0 {
         return Err(Refusal::new(11, NO_LIST, missing.trailing_zeros() as usize));
     }
-    let mut times = Times {
-        uptime: [0; MODULES],
-        production: [0; MODULES],
-    };
     for module in 0..lists.modules {
         let own = &mut counters[module];
         let last = open[module];
@@ -144,7 +150,7 @@ pub fn times(lists: &Lists) -> Result<Times, Refusal> {
         times.production[module] = own[0] >> TIME_SHIFT;
         times.uptime[module] = (own[0] + own[1] + own[2]) >> TIME_SHIFT;
     }
-    Ok(times)
+    Ok(())
 }
 
 /// The records at time 0, which come first: how many, and of which modules.
@@ -204,11 +210,10 @@ fn state_refusal(word: u64, lists: &Lists, place: usize) -> Refusal {
 
 pub const STANDARDS_MOST: usize = MOST_STANDARDS as usize;
 
-/// A standard's recipe above the 35 bits of its start; for a unit record, its recipe above its time.
-#[inline(always)]
-pub fn recipe_and_time(recipe: u64, time: u64) -> u64 {
-    recipe << 35 | time
-}
+/// Where the recipe of a key begins and where its module does: a standard's module, recipe and start, which its list
+/// rises by; of a unit record its module, recipe and time.
+pub const PAIR_SHIFT: u32 = 35;
+const KEY_MODULE_SHIFT: u32 = 45;
 
 /// The standards in list sequence, which rises. Ahead of them and behind them stands a key above every other.
 pub struct Standards {
@@ -226,31 +231,39 @@ impl Standards {
         }
     }
 
-    /// Grounds 9, 12, 13 and 19. `begins` is told of each recipe and its first place, from 1 on.
+    /// Grounds 6, 7, 9, 12, 13 and 19. `begins` is told of each module and recipe, in one number, and its first place, from
+    /// 1 on.
     #[inline(always)]
     pub fn read(
         &mut self,
         lists: &Lists,
-        mut begins: impl FnMut(usize, usize),
+        mut begins: impl FnMut(u64, usize),
     ) -> Result<(), Refusal> {
         let mut least = 0;
-        let mut recipe_before = u64::MAX;
-        let records = records::<9>(lists.standards).iter();
+        let mut pair_before = u64::MAX;
+        let modules_end = (lists.modules as u64) << KEY_MODULE_SHIFT;
+        let records = records::<10>(lists.standards).iter();
         for (place, record) in records.enumerate().take(STANDARDS_MOST) {
-            let key = eight(record, 0) >> 19;
-            let theoretical = (eight(record, 1) & 0x7ff_ffff) as u32;
-            if (key & TIME_MASK >= lists.period) | (theoretical == 0) | (key < least) {
+            let key = eight(record, 0) >> 13;
+            let back = eight(record, 2);
+            let theoretical = (back >> 2 & 0x7ff_ffff) as u32;
+            let bad = (back & SPARE_MASK != 0)
+                | (key >= modules_end)
+                | (key & TIME_MASK >= lists.period)
+                | (theoretical == 0)
+                | (key < least);
+            if bad {
                 let earlier = &self.keys[1..=place];
-                return Err(standard_refusal(key, theoretical, earlier, lists));
+                return Err(standard_refusal(record, earlier, lists));
             }
             least = key + 1;
             self.count = place + 1;
             self.keys[place + 1] = key;
             self.theoretical[place + 1] = theoretical;
-            let recipe = key >> 35;
-            if recipe != recipe_before {
-                begins(recipe as usize, place + 1);
-                recipe_before = recipe;
+            let pair = key >> PAIR_SHIFT;
+            if pair != pair_before {
+                begins(pair, place + 1);
+                pair_before = pair;
             }
         }
         Ok(())
@@ -259,10 +272,15 @@ impl Standards {
 
 /// The first ground that a standard known to be bad meets, behind these keys.
 #[cold]
-fn standard_refusal(key: u64, theoretical: u32, earlier: &[u64], lists: &Lists) -> Refusal {
-    let number = if key & TIME_MASK >= lists.period {
+fn standard_refusal(record: &[u8; 10], earlier: &[u64], lists: &Lists) -> Refusal {
+    let (key, back) = (eight(record, 0) >> 13, eight(record, 2));
+    let number = if back & SPARE_MASK != 0 {
+        6
+    } else if key >> KEY_MODULE_SHIFT >= lists.modules as u64 {
+        7
+    } else if key & TIME_MASK >= lists.period {
         9
-    } else if theoretical == 0 {
+    } else if back >> 2 & 0x7ff_ffff == 0 {
         12
     } else if earlier.contains(&key) {
         13
@@ -276,8 +294,9 @@ fn standard_refusal(key: u64, theoretical: u32, earlier: &[u64], lists: &Lists) 
 pub struct Unit {
     /// Time, module and recipe, which its list rises by.
     pub key: u64,
+    /// Module, recipe and time, by which its standard is sought.
+    pub sought: u64,
     pub module: usize,
-    pub recipe: u64,
     pub time: u64,
     pub actual: u64,
     pub effective: u64,
@@ -291,8 +310,8 @@ impl Unit {
         let back = eight(record, 3);
         Unit {
             key: (front >> 13 & TIME_MASK) << 16 | front >> 48,
+            sought: front >> 13,
             module: (front >> 58) as usize,
-            recipe: front >> 48 & 0x3ff,
             time: front >> 13 & TIME_MASK,
             actual: back >> 21 & 0xffff,
             effective: back >> 5 & 0xffff,
@@ -328,6 +347,15 @@ impl Unit {
 pub struct Theoretical {
     pub actual: [u64; MODULES],
     pub effective: [u64; MODULES],
+}
+
+impl Theoretical {
+    pub fn none() -> Theoretical {
+        Theoretical {
+            actual: [0; MODULES],
+            effective: [0; MODULES],
+        }
+    }
 }
 
 /// The five quantities of a line.

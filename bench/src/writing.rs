@@ -20,6 +20,17 @@ type OfThree = unsafe extern "C" fn(
     next: *mut Next,
     refusal: *mut Refused,
 ) -> u32;
+type OfFour = unsafe extern "C" fn(
+    buf: *mut u8,
+    buf_len: usize,
+    at: usize,
+    u64,
+    u64,
+    u64,
+    u64,
+    next: *mut Next,
+    refusal: *mut Refused,
+) -> u32;
 type OfFive = unsafe extern "C" fn(
     buf: *mut u8,
     buf_len: usize,
@@ -37,7 +48,7 @@ type OfFive = unsafe extern "C" fn(
 pub struct Calls {
     pub header: OfFive,
     pub state: OfThree,
-    pub standard: OfThree,
+    pub standard: OfFour,
     pub unit: OfFive,
 }
 
@@ -65,6 +76,14 @@ impl Writer<'_> {
         let at = self.next[0] as usize;
         let (next, refusal) = (&mut self.next, &mut self.refusal);
         self.written &= unsafe { call(buf, buf_len, at, a, b, c, next, refusal) } == 1;
+    }
+
+    #[inline(always)]
+    fn four(&mut self, call: OfFour, [a, b, c, d]: [u64; 4]) {
+        let (buf, buf_len) = (self.buffer.as_mut_ptr(), self.buffer.len());
+        let at = self.next[0] as usize;
+        let (next, refusal) = (&mut self.next, &mut self.refusal);
+        self.written &= unsafe { call(buf, buf_len, at, a, b, c, d, next, refusal) } == 1;
     }
 
     #[inline(always)]
@@ -98,7 +117,8 @@ impl Calls {
             writer.three(self.state, [it.module, it.code, it.time]);
         }
         for it in &log.standards {
-            writer.three(self.standard, [it.recipe, it.start, it.theoretical]);
+            let values = [it.module, it.recipe, it.start, it.theoretical];
+            writer.four(self.standard, values);
         }
         for it in &log.units {
             let values = [it.module, it.recipe, it.time, it.actual, it.effective];
@@ -201,6 +221,7 @@ unsafe extern "C" fn put_standard(
     buf: *mut u8,
     buf_len: usize,
     at: usize,
+    module: u64,
     recipe: u64,
     start: u64,
     theoretical: u64,
@@ -208,15 +229,17 @@ unsafe extern "C" fn put_standard(
     refusal: *mut Refused,
 ) -> u32 {
     let (next, refusal) = unsafe { (&mut *next, &mut *refusal) };
-    if recipe > 1023 || start >> 35 != 0 || theoretical > 0x7ff_ffff {
+    if module > 63 || recipe > 1023 || start >> 35 != 0 || theoretical > 0x7ff_ffff {
         return refuse(refusal, 22, STANDARDS);
     }
-    let Some(record) = (unsafe { room::<9>(buf, buf_len, at) }) else {
+    let Some(record) = (unsafe { room::<10>(buf, buf_len, at) }) else {
         return refuse(refusal, 18, NO_LIST);
     };
-    set(record, 0, recipe << 54 | start << 19 | theoretical >> 8);
-    record[8] = theoretical as u8;
-    added(at, 9, next, refusal)
+    // Bits 0 to 63, then bits 16 to 79.
+    let front = module << 58 | recipe << 48 | start << 13 | theoretical >> 14;
+    set(record, 0, front);
+    set(record, 2, start << 29 | theoretical << 2);
+    added(at, 10, next, refusal)
 }
 
 #[inline(never)]

@@ -57,8 +57,8 @@ fn on_the_generators_logs() {
 fn on_the_measured_logs() {
     let measured = logs::variants();
     let lengths: Vec<usize> = measured.iter().map(|variant| variant.log.len()).collect();
-    let typical = 10 + 6 * 170 + 9 * 8 + 11 * 120;
-    assert_eq!(lengths, [62_618, 62_618, 62_618, 62_618, typical]);
+    let typical = 10 + 6 * 170 + 10 * 8 + 11 * 120;
+    assert_eq!(lengths, [63_130, 63_130, 63_130, 63_130, typical]);
     for variant in measured {
         assert!(
             account(&variant.log).is_ok(),
@@ -86,8 +86,8 @@ fn put(
         Record::State([a, b, c]) => unsafe {
             (BY_HAND.state)(buf, len, at, a, b, c, next, refusal)
         },
-        Record::Standard([a, b, c]) => unsafe {
-            (BY_HAND.standard)(buf, len, at, a, b, c, next, refusal)
+        Record::Standard([a, b, c, d]) => unsafe {
+            (BY_HAND.standard)(buf, len, at, a, b, c, d, next, refusal)
         },
         Record::Unit([a, b, c, d, e]) => unsafe {
             (BY_HAND.unit)(buf, len, at, a, b, c, d, e, next, refusal)
