@@ -4,7 +4,6 @@
 
 use crate::parts::*;
 use difftest::records::*;
-use std::hint::assert_unchecked;
 
 /// Twice as many slots as there are standards.
 const SLOTS: usize = 1 << SLOT_BITS;
@@ -47,10 +46,7 @@ impl Index {
     /// A place of no standard or of one that was read.
     #[inline(always)]
     fn place(&self, slot: usize) -> usize {
-        let place = usize::from(self.places[slot]);
-        // Places come from `Standards::read` and `advance` alone.
-        unsafe { assert_unchecked(place <= STANDARDS_MOST) };
-        place
+        usize::from(self.places[slot]).min(STANDARDS_MOST)
     }
 
     /// The slot of module and recipe, none where they have no standard in force.
