@@ -177,6 +177,31 @@ fn guidebook_by_sums() {
     assert_eq!(tenths_of_minutes(quantities.effective), 47_090);
 }
 
+/// What the new chamber shows, and what it would show by the old chambers' time.
+#[test]
+fn chamber_by_its_own_time() {
+    let chamber = log("chamber");
+    let shows = |new: &str, tool: &str| {
+        format!(
+            "module avail oper rate qual oee\n\
+             0 0.9167 0.9091 0.7500 0.9800 0.6125\n\
+             1 0.9167 0.9091 0.7500 0.9800 0.6125\n\
+             2 0.9167 0.9091 {new}\n\
+             tool 0.9167 0.9091 {tool}\n"
+        )
+    };
+    assert_eq!(
+        output(&chamber),
+        shows("0.5000 0.9800 0.4083", "0.6667 0.9800 0.5444")
+    );
+    let mut one_time = Draft::of(read(&chamber).expect("well formed"));
+    one_time.standards[2].theoretical = one_time.standards[0].theoretical;
+    assert_eq!(
+        output(&one_time.bytes()),
+        shows("0.7500 0.9800 0.6125", "0.7500 0.9800 0.6125")
+    );
+}
+
 /// What the etcher shows, and what it would show by the first standard that covers the recipe.
 #[test]
 fn etcher_by_each_standard() {
@@ -275,7 +300,7 @@ fn lists_in_sequence() {
     }
 }
 
-/// One sample for each number from 2 to 16, and one for each list in another sequence.
+/// One sample for each number from 2 to 16, one for each list in another sequence, and those of R-5.
 #[test]
 fn refused_by_number() {
     let lines = [
@@ -297,6 +322,9 @@ fn refused_by_number() {
         ("module-sequence", "10 list 1 at 1"),
         ("unsorted-standards", "19 list 2 at 2"),
         ("unsorted", "19 list 3 at 4"),
+        ("standard-spare", "6 list 2 at 2"),
+        ("standard-module", "7 list 2 at 1"),
+        ("other-module", "15 list 3 at 1"),
     ];
     for (name, line) in lines {
         let refused = log(&format!("refused-{name}"));
