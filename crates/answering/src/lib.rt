@@ -1,4 +1,6 @@
 // The calls for state times, quantities and doubles, of a module and of the tool. None has a `requires`.
+#![tactic(auto)]
+
 ghost use Rattle.std.specs.Prelude.{◌≡◌};
 ghost use Rattle.e79.specs.Quantities.{Ordered};
 ghost use Rattle.e79.specs.Doubles.{figures_of};
@@ -10,28 +12,28 @@ use e79::{Figures, Quantities};
 use rules::{Refusal, StateTimes, Verdict};
 
 // The six state times of a module or of the tool, or why the log was turned back.
-#[derive(Drop)]
+#[derive(Clone, Copy)]
 pub enum StateTimesAnswer {
     Answered(StateTimes),
     Refused(Refusal),
 }
 
 // The five quantities.
-#[derive(Drop)]
+#[derive(Clone, Copy)]
 pub enum QuantitiesAnswer {
     Answered(Quantities),
     Refused(Refusal),
 }
 
 // The set of doubles.
-#[derive(Drop)]
+#[derive(Clone, Copy)]
 pub enum FiguresAnswer {
     Answered(Figures),
     Refused(Refusal),
 }
 
 // What the calls are answered from. Where the verdict refuses, nothing is said of times and quantities.
-#[derive(Drop)]
+#[derive(Clone, Copy)]
 struct Summary {
     verdict: Verdict,
     times: StateTimes,

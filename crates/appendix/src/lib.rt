@@ -1,4 +1,6 @@
 // What the program prints of E79's appendix: the supplemental figures, or why a log or its benchmarks are refused. No public call has a `requires`.
+#![tactic(auto)]
+
 ghost use Rattle.std.specs.Prelude.{◌+◌, ◌≤◌, length};
 ghost use Rattle.filling.specs.Buffer.{Put, AtFront};
 ghost use Rattle.appendix.specs.Lines.{figure_line, supplemental_text, supplemental_printed, supplemental_words};

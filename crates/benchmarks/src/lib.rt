@@ -1,4 +1,6 @@
 // Benchmarks of standards: read, tested one by one, and added up. Not for a buyer: the callers owe that log and benchmarks are all there.
+#![tactic(auto)]
+
 ghost use Rattle.std.specs.Prelude.{◌≡◌, List, ℕ, ◌+◌, ◌*◌, ◌^◌, ◌<◌};
 ghost use Rattle.bits.specs.Bits.{field};
 ghost use Rattle.records.specs.Log.{decode};
@@ -11,7 +13,7 @@ use rules::{Refusal, Verdict};
 
 // What a standard is measured by: the ms that a unit takes on the fastest tool of the kind, by the optimized recipe, and in the steps that add value; and the total
 // effective units, from which scrap and rework of other tools are taken off too.
-#[derive(Drop)]
+#[derive(Clone, Copy)]
 pub struct Benchmark {
     pub reference: u64,
     pub optimized: u64,

@@ -1,4 +1,6 @@
 // Fields of a width at a bit position of a slice of bytes, most significant bit first, read by whole words.
+#![tactic(auto)]
+
 ghost use Rattle.std.specs.Prelude.{◌≡◌, ◌+◌, ◌*◌, ◌%◌, ◌<◌, ◌≤◌, ◌^◌, length};
 ghost use Rattle.bits.specs.Bits.{field, width_read};
 ghost use Rattle.bits.specs.Words.{part_of, swapped_of};
@@ -124,7 +126,7 @@ fn word_from(s: &[u8], at: usize) -> u64
 }
 
 // A lent slice and a position in it, in bits.
-#[derive(Drop)]
+#[derive(Clone, Copy)]
 pub struct BitReader<'a> {
     pub src: &'a [u8],
     pub at: usize,
@@ -171,7 +173,7 @@ pub fn read_field(log: &[u8], at: usize, width: usize) -> u64
 }
 
 // Two fields side by side.
-#[derive(Drop)]
+#[derive(Clone, Copy)]
 pub struct Pair {
     pub first: u64,
     pub second: u64,

@@ -1,4 +1,6 @@
 // The refusal card: what each refusal means and what to look for, and a refusal in words.
+#![tactic(auto)]
+
 ghost use Rattle.std.specs.Prelude.{◌≡◌, [], ◌++◌, ◌+◌, ◌≤◌, ◌<◌, length, drop, get_or};
 ghost use Rattle.filling.specs.Buffer.{Put, AtFront};
 ghost use Rattle.report.specs.Report.{decimal};

@@ -3,6 +3,8 @@
 //
 // Both public calls end in `_of_ordered` and have a `requires`, so they are not for a buyer to link: they are called where that is shown, as it is
 // of the quantities of every accepted log.
+#![tactic(auto)]
+
 ghost use Rattle.std.specs.Prelude.{◌≡◌, ◌<◌, ◌^◌};
 ghost use Rattle.e79.specs.Quantities.{Ordered, Portion};
 ghost use Rattle.e79.specs.Doubles.{quotient_of, efficiency_of, combined, left_to_right};
@@ -11,7 +13,7 @@ ghost use Rattle.e79.specs.Printed.{rounded_of, printed_of};
 
 // The five quantities of a module or of the tool, in ms: total time, uptime, production time, and the theoretical production time for actual and for
 // effective units.
-#[derive(Drop)]
+#[derive(Clone, Copy)]
 pub struct Quantities {
     pub total: u64,
     pub uptime: u64,
@@ -21,14 +23,14 @@ pub struct Quantities {
 }
 
 // A quotient of two quantities, or none where the denominator is 0.
-#[derive(Drop)]
+#[derive(Clone, Copy)]
 pub enum Efficiency {
     Ratio(f64),
     NoBase,
 }
 
 // The set of doubles of a module or of the tool.
-#[derive(Drop)]
+#[derive(Clone, Copy)]
 pub struct Figures {
     pub availability: Efficiency,
     pub operational: Efficiency,
@@ -39,7 +41,7 @@ pub struct Figures {
 }
 
 // A printed figure in ten-thousandths, or none where the denominator is 0.
-#[derive(Drop)]
+#[derive(Clone, Copy)]
 pub enum Printed {
     Figure(u64),
     NoBase,

@@ -1,4 +1,6 @@
 // Bytes put into a buffer that the caller lends. Each call answers the place behind what it put; the caller owes the room, so none is for a buyer.
+#![tactic(auto)]
+
 ghost use Rattle.std.specs.Prelude.{◌+◌, ◌≤◌, length};
 ghost use Rattle.filling.specs.Buffer.{Put, big_endian};
 

@@ -1,4 +1,6 @@
 // The effective units that each standard judges: those of the unit records for which it was the standard in force.
+#![tactic(auto)]
+
 ghost use Rattle.std.specs.Prelude.{◌≡◌, true, ◌+◌, ◌*◌, ◌^◌, ◌<◌, ◌≤◌, get_or, set, replicate};
 ghost use Rattle.records.specs.Log.{up_to, standard_at, unit_at};
 ghost use Rattle.records.specs.Covers.{Covers};

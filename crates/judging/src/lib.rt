@@ -1,5 +1,7 @@
 // Judges a log: all grounds in document 01's sequence, with the sums added up on the way. No call here is for a buyer: those that read the sums owe
 // that the log is accepted.
+#![tactic(auto)]
+
 mod header;
 mod sums;
 

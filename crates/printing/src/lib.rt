@@ -1,5 +1,7 @@
 // What the program prints of a log beside its report: the tables of state times and of quantities, and why a log is refused, in words. No public call
 // has a `requires`.
+#![tactic(auto)]
+
 ghost use Rattle.std.specs.Prelude.{◌≡◌, ◌+◌, ◌<◌, ◌≤◌, length};
 ghost use Rattle.records.specs.Log.{decode};
 ghost use Rattle.rules.specs.Quantities.{times_of, quantities_of};
@@ -14,7 +16,7 @@ use e79::Quantities;
 use rules::{StateTimes, Verdict};
 
 // What a table tells of each module and of the tool: the six state times, or the five quantities, in ms.
-#[derive(Drop)]
+#[derive(Clone, Copy)]
 pub enum Table {
     Times,
     Quantities,

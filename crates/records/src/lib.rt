@@ -1,5 +1,7 @@
 // The header of a log, read for every slice, a byte past the end counting as 0; and the three kinds of record, each read by its index where all of it is
 // in the log.
+#![tactic(auto)]
+
 ghost use Rattle.std.specs.Prelude.{◌≡◌, List, ℕ, ◌+◌, ◌*◌, ◌^◌, ◌<◌};
 ghost use Rattle.bits.specs.Bits.{field};
 ghost use Rattle.records.specs.Fields.{state_from, standard_from, unit_from};
@@ -7,7 +9,7 @@ ghost use Rattle.records.specs.Log.{header_of, state_at, standard_at, unit_at};
 ghost use Rattle.records.specs.Covers.{Covers};
 
 // The period in ms, the number of modules, and how many records each list has.
-#[derive(Drop)]
+#[derive(Clone, Copy)]
 pub struct Header {
     pub period: u64,
     pub modules: usize,
@@ -17,7 +19,7 @@ pub struct Header {
 }
 
 // From this time on the module is in the sub-state of this code.
-#[derive(Drop)]
+#[derive(Clone, Copy)]
 pub struct StateRecord {
     pub module: usize,
     pub code: usize,
@@ -26,7 +28,7 @@ pub struct StateRecord {
 }
 
 // A theoretical time per unit in ms, for a module and a recipe, from a start on.
-#[derive(Drop)]
+#[derive(Clone, Copy)]
 pub struct Standard {
     pub module: usize,
     pub recipe: usize,
@@ -36,7 +38,7 @@ pub struct Standard {
 }
 
 // Units that a module made by a recipe, reported at a time.
-#[derive(Drop)]
+#[derive(Clone, Copy)]
 pub struct UnitRecord {
     pub module: usize,
     pub recipe: usize,

@@ -2,6 +2,8 @@
 //
 // A call that writes answers the place behind what it wrote. Those that write into a slice have a `requires`, so they are not for a buyer to link: they are
 // called where room and order are shown.
+#![tactic(auto)]
+
 ghost use Rattle.std.specs.Prelude.{◌≡◌, ◌++◌, ◌+◌, ◌^◌, ◌≤◌, ◌<◌, length};
 ghost use Rattle.e79.specs.Quantities.{Ordered, Portion};
 ghost use Rattle.filling.specs.Buffer.{Put, AtFront};

@@ -1,4 +1,6 @@
 // The verdict on a log and a buffer's length, the report written into a buffer, and what the shift program prints. No public call has a `requires`.
+#![tactic(auto)]
+
 ghost use Rattle.std.specs.Prelude.{◌≡◌, ◌+◌, ◌*◌, ◌<◌, ◌≤◌, length};
 ghost use Rattle.records.specs.Log.{decode};
 ghost use Rattle.rules.specs.Quantities.{of_module};

@@ -1,4 +1,6 @@
 // The pass over the state records of a log: it tests each record and sums the modules' state times on the way.
+#![tactic(auto)]
+
 ghost use Rattle.std.specs.Prelude.{◌≡◌, true, List, ◌+◌, ◌*◌, ◌^◌, ◌<◌, ◌≤◌, get_or, replicate};
 ghost use Rattle.records.specs.declared.StateRecord.{StateRecord};
 ghost use Rattle.records.specs.Log.{state_at, up_to};

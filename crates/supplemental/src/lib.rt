@@ -1,4 +1,6 @@
 // The call for the four supplemental figures of the tool. It has no `requires`.
+#![tactic(auto)]
+
 ghost use Rattle.std.specs.Prelude.{◌≡◌, ◌<◌, get_or};
 ghost use Rattle.records.specs.Log.{decode};
 ghost use Rattle.e79.specs.Quantities.{Ordered, Portion};
@@ -12,7 +14,7 @@ use answering::QuantitiesAnswer;
 use rules::{Refusal, Verdict};
 
 // Reference, optimized-recipe, value-added and total effective units OEE of the tool, in ten-thousandths.
-#[derive(Drop)]
+#[derive(Clone, Copy)]
 pub struct Supplemental {
     pub reference: u64,
     pub optimized: u64,
@@ -21,7 +23,7 @@ pub struct Supplemental {
 }
 
 // The four, or why the log or its benchmarks were turned back.
-#[derive(Drop)]
+#[derive(Clone, Copy)]
 pub enum SupplementalAnswer {
     Answered(Supplemental),
     Refused(Refusal),

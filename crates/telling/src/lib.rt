@@ -1,4 +1,6 @@
 // An answer told to C: a flag, the refusal's three numbers, and the answer's numbers in arrays of a fixed size, which a refusal leaves as they were.
+#![tactic(auto)]
+
 ghost use Rattle.std.specs.Prelude.{◌≡◌};
 ghost use Rattle.std.specs.Float.{nan};
 ghost use Rattle.rules.specs.Quantities.{times_of, quantities_of};

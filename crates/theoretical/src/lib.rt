@@ -1,4 +1,6 @@
 // Credits each unit with the theoretical time in force when it was made: the standards are tested and listed once, then the unit records are tested and summed.
+#![tactic(auto)]
+
 ghost use Rattle.std.specs.Prelude.{◌≡◌, true, ◌+◌, ◌*◌, ◌^◌, ◌<◌, ◌≤◌, leb, get_or, set, replicate};
 ghost use Rattle.records.specs.Log.{up_to, standard_at, unit_at};
 ghost use Rattle.records.specs.Covers.{Covers};
@@ -13,7 +15,7 @@ use records::{Header, Standard, UnitRecord};
 use rules::{Placed, Refusal, Verdict};
 
 // What looking up a standard answers: a standard with its index, or none.
-#[derive(Drop)]
+#[derive(Clone, Copy)]
 pub enum Lookup {
     Found(Placed),
     Nothing,

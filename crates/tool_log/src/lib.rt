@@ -1,5 +1,7 @@
 // What a buyer calls. No call has a `requires`: each takes every sequence of bytes, and answers or refuses. In specs/ and proofs/ stand the laws of
 // every accepted log that a buyer looks for.
+#![tactic(auto)]
+
 
 // The state times, the quantities and the set of doubles, of a module and of the tool, each with its answer.
 pub use answering::{

@@ -1,4 +1,6 @@
 // What a dashboard links: the calls of `tool_log` as C functions. None has a `requires`, and each array that a caller lends has a fixed size.
+#![tactic(auto)]
+
 ghost use Rattle.reporting.specs.Reports.{Written};
 ghost use Rattle.tool_log_c.specs.Calls.{TellsVerdict, TellsModuleTimes, TellsToolTimes, TellsModuleQuantities, TellsToolQuantities, TellsModuleFigures, TellsToolFigures, TellsSupplemental, TellsAdding, TellsFinishing};
 ghost use Rattle.writing.specs.Writing.{header_entry, state_entry, standard_entry, unit_entry};

@@ -1,5 +1,7 @@
 // Writing a log into a lent buffer, record by record, and the test of what was written. No public call has a `requires`: any position and any value
 // is taken, and nothing is remembered from one call to the next.
+#![tactic(auto)]
+
 ghost use Rattle.std.specs.Prelude.{◌≡◌, ◌++◌, ◌+◌, ◌-◌, ◌*◌, ◌^◌, ◌≤◌, ◌<◌};
 ghost use Rattle.filling.specs.Buffer.{big_endian};
 ghost use Rattle.writing.specs.Writing.{header_entry, state_entry, standard_entry, unit_entry, any_too_wide, Added, Finished};
@@ -8,7 +10,7 @@ ghost use Rattle.writing.specs.Storing.{Stored};
 use rules::{Refusal, Verdict};
 
 // The position behind the record that was added, in bytes, or why none was.
-#[derive(Drop)]
+#[derive(Clone, Copy)]
 pub enum PositionAnswer {
     Answered(usize),
     Refused(Refusal),
