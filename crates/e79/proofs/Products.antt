@@ -1,6 +1,6 @@
 -- The product in turn has seven roundings behind it, so it is `Proper`. Where one of the four has no base, effective is 0, and so is the product. Assumes nothing.
 use mathlib.Core.Path.{◌≡◌, refl}
-use Prim.Native.Nat.{ℕ, zero, suc, ◌*◌, ◌≤◌, ◌<◌}
+use Prim.Native.Nat.{ℕ, zero, suc, ◌*◌, ◌<◌}
 use native.Mathlib.Nat.{zero-lt-suc, lt_irrefl, zero-mul, mul_assoc, mul_comm, mul_left_comm, mul-pos}
 use native.Mathlib.Omega.{arith}
 use lib.Ieee.{Float, binary64, fits}
