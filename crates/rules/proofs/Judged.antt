@@ -16,7 +16,7 @@ use Rattle.records.specs.declared.UnitRecord.{UnitRecord}
 use Rattle.records.specs.Log.{up_to}
 use Rattle.rules.specs.declared.Placed.{Placed}
 use Rattle.rules.specs.declared.Verdict.TheVariants.{Accepted}
-use Rattle.rules.specs.Grounds.{ground, in_turn, ◌then◌}
+use Rattle.rules.specs.Grounds.{ground, in_turn}
 use Rattle.rules.specs.Theoretical.{in_force, For, Answers, time_of, credit, theoretical_time, is_at, judged_by, units_judged}
 use Rattle.rules.specs.Quantities.{sum_below}
 use Rattle.rules.specs.RecordGrounds.{is_none, unit_ground, unit_grounds}

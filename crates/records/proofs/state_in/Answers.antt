@@ -7,18 +7,15 @@ use Rattle.bits.specs.Bits.{field}
 use Rattle.bits.proofs.Fields.{cut_at, tail_at}
 use Rattle.records.specs.Fields.{state_from}
 use Rattle.records.specs.declared.StateRecord.{StateRecord}
-use Rattle.records.proofs.state_in.Statement.{statement}
-use Rattle.records.proofs.state_in.Tie as tie
+use Rattle.records.proofs.state_in.Goals as goal
 
 fields : (s : List ℕ) (p : ℕ) (r : StateRecord) → r.«module» ≡ field s p 6 → r.code ≡ field s (p + 6) 5 → r.time ≡ field s (p + 11) 35 → r.spare ≡ field s (p + 46) 2
     → r ≡ state_from s p
 unfolding state_from
 fields s p r m k t x = λ i. record { «module» = m i; code = k i; time = t i; spare = x i }
 
-returns : tie.Need-returns
-returns c = λ s p e.
+pub returns : goal.returns
+returns c =
+    λ s p e.
     fields s (p + 16) _ (rw e (cut_at s p 16 6 42 64 (p + 16) (omega arith) (omega arith))) (rw e (cut_at s p 22 5 37 64 (p + 16 + 6) (omega arith) (omega arith)))
     (rw e (cut_at s p 27 35 2 64 (p + 16 + 11) (omega arith) (omega arith))) (rw e (tail_at s p 62 2 64 (p + 16 + 46) (omega arith) (omega arith)))
-
-pub state_in_spec : {M : Type 1} → statement M
-state_in_spec = tie.close (tie.spec returns)

@@ -3,12 +3,12 @@ use native.Mathlib.Omega.{arith}
 use Prim.Native.Nat.{◌+◌}
 use Rattle.bits.proofs.Fields.{cut_at, tail_at}
 use Rattle.records.specs.Fields.{unit_from}
-use Rattle.records.proofs.unit_in.Statement.{statement}
-use Rattle.records.proofs.unit_in.Tie as tie
+use Rattle.records.proofs.unit_in.Goals as goal
 
-returns : tie.Need-returns
+pub returns : goal.returns
 unfolding unit_from
-returns c = λ s p q a b e.
+returns c =
+    λ s p q a b e.
     rw (
       a,
       b,
@@ -19,6 +19,3 @@ returns c = λ s p q a b e.
       cut_at s q 43 16 5 64 (p + 67) (omega arith) (omega (arith, e)),
       tail_at s q 59 5 64 (p + 83) (omega arith) (omega (arith, e)),
     )
-
-pub unit_in_spec : {M : Type 1} → statement M
-unit_in_spec = tie.close (tie.spec returns)

@@ -3,12 +3,12 @@ use native.Mathlib.Omega.{arith}
 use Prim.Native.Nat.{◌+◌}
 use Rattle.bits.proofs.Fields.{cut_at, tail_at}
 use Rattle.records.specs.Fields.{standard_from}
-use Rattle.records.proofs.standard_in.Statement.{statement}
-use Rattle.records.proofs.standard_in.Tie as tie
+use Rattle.records.proofs.standard_in.Goals as goal
 
-returns : tie.Need-returns
+pub returns : goal.returns
 unfolding standard_from
-returns c = λ s p q a b e.
+returns c =
+    λ s p q a b e.
     rw (
       a,
       b,
@@ -18,6 +18,3 @@ returns c = λ s p q a b e.
       cut_at s q 35 27 2 64 (p + 51) (omega arith) (omega (arith, e)),
       tail_at s q 62 2 64 (p + 78) (omega arith) (omega (arith, e)),
     )
-
-pub standard_in_spec : {M : Type 1} → statement M
-standard_in_spec = tie.close (tie.spec returns)

@@ -1,0 +1,10 @@
+use Prim.Native.Nat.{◌-◌}
+use Rattle.filling.specs.Buffer.{big_endian}
+use Rattle.filling.proofs.Written.{Copied}
+use Rattle.filling.proofs.put_bytes.Given as goal
+
+abbrev pub invariant-loop-i : goal.invariant-loop-i
+invariant-loop-i l = Copied (big_endian l.n l.number) l.initial.buf l.at l.i l.buf
+
+abbrev pub decreases-loop-i : goal.decreases-loop-i
+decreases-loop-i l = l.n - l.i
