@@ -3,10 +3,9 @@ use native.Mathlib.Omega.{arith}
 use Prim.Native.Nat.{◌+◌}
 use Rattle.bits.proofs.Fields.{cut_at, tail_at}
 use Rattle.benchmarks.specs.Benchmarks.{benchmark_from}
-use Rattle.benchmarks.proofs.benchmark_in.Statement.{statement}
-use Rattle.benchmarks.proofs.benchmark_in.Tie as tie
+use Rattle.benchmarks.proofs.benchmark_in.Goals as goal
 
-returns : tie.Need-returns
+pub returns : goal.returns
 unfolding benchmark_from
 returns c = λ s p q a b e.
     rw (
@@ -18,6 +17,3 @@ returns c = λ s p q a b e.
       cut_at s q 33 27 4 64 (p + 81) (omega arith) (omega (arith, e)),
       tail_at s q 60 4 64 (p + 108) (omega arith) (omega (arith, e)),
     )
-
-pub benchmark_in_spec : {M : Type 1} → statement M
-benchmark_in_spec = tie.close (tie.spec returns)
