@@ -6,7 +6,7 @@ use Rattle.e79.specs.Quantities.{Ordered}
 use Rattle.e79.specs.Doubles.{figures_of}
 use Rattle.e79.specs.Accuracy.{Accurate}
 use Rattle.rules.specs.declared.Refusal.{Refusal}
-use Rattle.rules.specs.declared.Verdict.TheVariants.{Accepted, Refused}
+use Rattle.rules.specs.declared.Verdict.TheVariants.{Accepted}
 use Rattle.rules.specs.Names.{no_list}
 use Rattle.rules.specs.Quantities.{all_times, module_times, tool_times, of_module, of_tool}
 use Rattle.rules.specs.Verdict.{verdict, verdict_on}

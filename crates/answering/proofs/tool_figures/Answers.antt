@@ -1,6 +1,5 @@
 -- `answering::tool_figures` meets its contract: the summary's verdict decides, and the doubles are those of the log's quantities.
 -- Assumes nothing.
-use borrow.Author.Rules.{rules}
 use mathlib.Core.Path.{ap}
 use Rattle.records.specs.Log.{decode}
 use Rattle.e79.specs.Doubles.{figures_of}
@@ -12,20 +11,16 @@ use Rattle.rules.specs.Refusals.{OfLog}
 use Rattle.rules.proofs.KnownRefusals.{log-refusal}
 use Rattle.rules.proofs.Given.{given_by}
 use Rattle.answering.proofs.Answers.{figures-apart}
-use Rattle.answering.proofs.tool_figures.Statement.{statement}
-use Rattle.answering.proofs.tool_figures.Tie as tie
+use Rattle.answering.proofs.tool_figures.Goals as goal
 
-figures_in-requires : tie.Need-figures-in-requires
-figures_in-requires c κs = λ e. rw (c.tool-summary.ensures.quantities e) (c.tool-summary.ensures.ordered e)
+pub figures_in-requires : goal.figures_in-requires
+figures_in-requires c = λ e. rw (c.tool_summary.ensures.quantities e) (c.tool_summary.ensures.ordered e)
 
-returns : tie.Need-returns
+pub returns : goal.returns
 returns c =
-    let a = c.before.before.before.args in
+    let a = c.args in
     let q = of_tool (decode a.log.now) in
-    let m = c.before.tool-summary in
+    let m = c.tool_summary in
     let s = m.ensures in
-    given_by figures-apart (verdict a.log.now) (figures_of q) (Accurate q) (OfLog a.log.now) m.result.verdict (figures_of m.result.quantities) _ c.figures-in.ensures s.answer
+    given_by figures-apart (verdict a.log.now) (figures_of q) (Accurate q) (OfLog a.log.now) m.result.verdict (figures_of m.result.quantities) _ c.figures_in.ensures s.answer
     (λ e. ap figures_of (s.quantities e)) (λ e. accurate _ (s.ordered e)) (log-refusal a.log.now)
-
-pub tool_figures_spec : {M : Type 1} → statement M
-tool_figures_spec = tie.close (tie.spec (λ c κs. search rules) figures_in-requires returns)
