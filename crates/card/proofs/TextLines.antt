@@ -1,41 +1,45 @@
 -- Lines of a text: where the next one begins, and line k of texts that stand as lines. Assumes nothing.
 use mathlib.Core.Path.{◌≡◌, refl, sym, ap, ◌∙◌}
-use mathlib.Core.Bool.{Bool, true, false, ◌&&◌, not}
+use mathlib.Core.Bool.{Bool, true, false, ◌&&◌, not, cond}
 use mathlib.Core.List.{List, [], ◌∷◌, ◌++◌}
-use Prim.Native.Nat.{ℕ, zero, suc, ◌+◌, ◌-◌, ◌≤◌}
+use Prim.Native.Nat.{ℕ, zero, suc, ◌+◌, ◌-◌, ◌≤◌, ◌<◌}
 use native.Mathlib.Omega.{arith}
+use borrow.Author.Tests.{eq-eqb, ne_eqb}
+use Rattle.std.proofs.lemmas.List.Sums.{position_or_len_is}
+use Rattle.std.proofs.lemmas.List.{take_rest}
 use lib.Dec.{T, eqb, leb, leb→le}
 use lib.ListN.{length, take, drop, get_or, drop_of_length-le}
-use lib.Seq.{take-length, drop-drop, drop-nil, take-nil, take-append_seam, drop-append-add}
-use Rattle.bytes.specs.Bytes.{index_of, index_after, slice}
-use Rattle.card.specs.Fields.{as_lines, first_line, behind_line, behind_lines}
+use lib.Seq.{drop-drop, drop-nil, take-nil, take-append_seam, drop-append-add}
+use Rattle.card.specs.Fields.{as_lines, index_of, first_line, behind_line, behind_lines}
 
 -- ---- the byte found from a position on
 
-slice_all : (from : ℕ) (s : List ℕ) → slice from (length s) s ≡ drop from s
-unfolding slice
-slice_all from s = rw take-length
+-- the first byte 10
+pub index_at : (xs : List ℕ) (i : ℕ) → i ≤ length xs → ((k : ℕ) → k < i → get_or xs k 0 ≡ 10 → ⊥) → (i < length xs → get_or xs i 0 ≡ 10) → i ≡ index_of 10 xs
+unfolding index_of
+index_at xs i within before found =
+    sym (position_or_len_is (λ x. eqb x 10) xs i 0 within (λ k h. ne_eqb (get_or xs k 0) 10 (before k h)) (λ h. eq-eqb (get_or xs i 0) 10 (found h)))
 
-module _ (s : List ℕ) (at end : ℕ) (found : end ≡ at + index_of 10 (slice at (length s) s)) where
-  place : end ≡ at + index_of 10 (drop at s)
-  place = found ∙ ap (λ t. at + index_of 10 t) (slice_all at s)
+module _ (s : List ℕ) (at n : ℕ) (found : n ≡ index_of 10 (take (length s - at) (drop at s))) where
+  place : n ≡ index_of 10 (drop at s)
+  place = found ∙ ap (index_of 10) (take_rest s at)
 
   -- the next line begins one behind it
-  pub next_begins : drop (end + 1) s ≡ behind_line (drop at s)
+  pub next_begins : drop (at + n + 1) s ≡ behind_line (drop at s)
   unfolding behind_line
-  next_begins = let e : end + 1 ≡ at + (index_of 10 (drop at s) + 1) = omega (arith, place) in rw e (sym (drop-drop (index_of 10 (drop at s) + 1) at s))
+  next_begins = let e : at + n + 1 ≡ at + (index_of 10 (drop at s) + 1) = omega (arith, place) in rw e (sym (drop-drop (index_of 10 (drop at s) + 1) at s))
 
   -- or at the text's end, where there is none
-  pub none_begins : length s ≤ end → drop end s ≡ behind_line (drop at s)
+  pub none_begins : length s ≤ at + n → drop (at + n) s ≡ behind_line (drop at s)
   none_begins h =
-      let a : drop end s ≡ [] = drop_of_length-le s h in
-      let b : drop (end + 1) s ≡ [] = drop_of_length-le s {i = end + 1} (omega arith) in
+      let a : drop (at + n) s ≡ [] = drop_of_length-le s h in
+      let b : drop (at + n + 1) s ≡ [] = drop_of_length-le s {i = at + n + 1} (omega arith) in
       a ∙ sym b ∙ next_begins
 
   -- the line stands before it
-  pub line_before : take (end - at) (drop at s) ≡ first_line (drop at s)
+  pub line_before : take (at + n - at) (drop at s) ≡ first_line (drop at s)
   unfolding first_line
-  line_before = let e : end - at ≡ index_of 10 (drop at s) = omega (arith, place) in rw e
+  line_before = let e : at + n - at ≡ index_of 10 (drop at s) = omega (arith, place) in rw e
 
 -- ---- texts as lines
 
@@ -55,13 +59,13 @@ both true c h = (tt, h)
 both false c h = absurd h
 
 index-plain : (x s : List ℕ) → T (plain x) → index_of 10 (x ++ (10 ∷ s)) ≡ length x
-unfolding index_of index_after plain
+unfolding index_of plain
 index-plain [] s h = refl
 index-plain (b ∷ x) s h = go (eqb b 10) h (λ k. index-plain x s k)
   where
-    go : (c : Bool) → T (not c && plain x) → (T (plain x) → index_of 10 (x ++ (10 ∷ s)) ≡ length x) → index_after c (index_of 10 (x ++ (10 ∷ s))) ≡ suc (length x)
+    go : (c : Bool) → T (not c && plain x) → (T (plain x) → index_of 10 (x ++ (10 ∷ s)) ≡ length x) → cond (not c) (1 + index_of 10 (x ++ (10 ∷ s))) 0 ≡ suc (length x)
     go true h more = absurd h
-    go false h more = ap suc (more h)
+    go false h more = omega (arith, more h)
 
 -- one line more passed is one line less to pass
 behind-first : (k : ℕ) (s : List ℕ) → behind_lines (suc k) s ≡ behind_lines k (behind_line s)

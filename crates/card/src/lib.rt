@@ -5,9 +5,17 @@ ghost use Rattle.std.specs.Prelude.{◌≡◌, [], ◌++◌, ◌+◌, ◌≤◌,
 ghost use Rattle.filling.specs.Buffer.{Put, AtFront};
 ghost use Rattle.report.specs.Report.{decimal};
 ghost use Rattle.card.specs.Card.{card, field, on_card, row_text, explained, is_module, kind, which_benchmark, whereabouts, words_of};
-ghost use Rattle.card.specs.Fields.{first_line, behind_line, behind_lines};
+ghost use Rattle.card.specs.Fields.{index_of, first_line, behind_line, behind_lines};
 
 use rules::Refusal;
+
+// How many bytes of a text stand before its first line end, all of them where it has none.
+fn line_length(text: &[u8]) -> usize
+    ensures upper_bound { result ≤ length text.now }
+    ensures text_value { result ≡ index_of 10 text.now }
+{
+    text.iter().position(|b| *b == b'\n').unwrap_or(text.len())
+}
 
 // Where the line behind the one at `at` begins, or the text's end.
 fn next_line(text: &[u8], at: usize) -> usize
@@ -15,7 +23,7 @@ fn next_line(text: &[u8], at: usize) -> usize
     ensures upper_bound { result ≤ length text.now }
     ensures text_value { drop result text.now ≡ behind_line (drop at text.now) }
 {
-    let end = bytes::scan::find(text, at, text.len(), b'\n');
+    let end = at + line_length(&text[at..]);
     if end < text.len() { end + 1 } else { end }
 }
 
@@ -37,7 +45,7 @@ fn put_line(buf: &mut [u8], at: usize, text: &[u8], k: usize) -> usize
     ensures { Put (first_line (behind_lines k text.now)) buf.old at result buf.new }
 {
     let from = line_start(text, k);
-    let end = bytes::scan::find(text, from, text.len(), b'\n');
+    let end = from + line_length(&text[from..]);
     filling::put_text(buf, at, &text[from..end])
 }
 
