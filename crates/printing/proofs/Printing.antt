@@ -13,7 +13,7 @@ use Rattle.rules.specs.Quantities.{sum_below, time_in, module_times, tool_times,
 use Rattle.judging.specs.Working.{Consistent}
 use Rattle.rules.proofs.SumLaws.{sum-le}
 use Rattle.judging.proofs.Accepted.{tool_total, tool_ordered}
-use Rattle.report.specs.Report.{decimal, short, tool}
+use Rattle.report.specs.Report.{decimal, tool}
 use Rattle.report.proofs.Decimals.{short-decimal, decimal-length}
 use Rattle.report.proofs.Tables.{joined_longest, table_length}
 use Rattle.printing.specs.declared.Table.{Table}

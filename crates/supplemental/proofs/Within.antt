@@ -15,7 +15,7 @@ use Rattle.e79.specs.Quantities.{Ordered, Portion}
 use Rattle.e79.specs.Printed.{rounded_of}
 use Rattle.e79.proofs.Printing.{rounded-nearest, rounded-le-one}
 use Rattle.rules.specs.declared.Verdict.TheVariants.{Accepted}
-use Rattle.rules.specs.Grounds.{ground, first_of, ◌then◌}
+use Rattle.rules.specs.Grounds.{ground, first_of}
 use Rattle.rules.specs.Quantities.{of_tool, effective_time}
 use Rattle.rules.specs.Verdict.{verdict}
 use Rattle.rules.proofs.Booleans.{or_left, or_right}
