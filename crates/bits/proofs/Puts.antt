@@ -1,4 +1,4 @@
--- The laws of `putField`: what is written reads back, and what stands before it is as it was.
+-- The laws of `put_field`: what is written reads back, and what stands before it is as it was.
 -- Assumes nothing.
 use mathlib.Core.Path.{◌≡◌, refl, sym, ap, ◌∙◌}
 use mathlib.Core.Bool.{Bool, cond, true, false}

@@ -110,7 +110,7 @@ fn width_read(width: usize) -> usize
     if width < 56 { width } else { 56 }
 }
 
-// The field of `width` bits from bit `at` on, for every slice, position and width: bytes past the end count as 0, a width above 56.
+// The field of `width` bits from bit `at` on, for every slice, position and width: bytes past the end count as 0, a width above 56 as 56.
 pub fn field_at(s: &[u8], at: usize, width: usize) -> u64
     ensures { result ≡ field s.now at (width_read width) }
 {

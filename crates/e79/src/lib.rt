@@ -69,6 +69,7 @@ pub fn figures_of_ordered(q: Quantities) -> Figures
 }
 
 // The printed figure, worked out from the whole numbers and not from a double. The caller owes that the two are ordered.
+#[tactic(auto, unfolding(crate::specs::Printed::printed_of, crate::specs::Quantities::based))]
 pub fn printed_of_ordered(numerator: u64, denominator: u64) -> Printed
     requires { Portion numerator denominator }
     ensures { result ≡ printed_of numerator denominator }
@@ -123,6 +124,7 @@ fn quotient_of(n: u64, d: u64) -> f64
     n as f64 / d as f64
 }
 
+#[tactic(auto, unfolding(crate::specs::Doubles::efficiency_of, crate::specs::Quantities::based))]
 fn efficiency_of(n: u64, d: u64) -> Efficiency
     requires { Portion n d }
     ensures { result ≡ efficiency_of n d }

@@ -1,4 +1,4 @@
--- `e79::figures_of_ordered` meets its contract: the parts are what the callees ensure, so the set is `figuresOf`, and `proofs/Products.antt` says what that is worth. Assumes nothing.
+-- `e79::figures_of_ordered` meets its contract: the parts are what the callees ensure, so the set is `figures_of`, and `proofs/Products.antt` says what that is worth. Assumes nothing.
 use Rattle.e79.specs.Doubles.{figures_of}
 use Rattle.e79.proofs.Products.{accurate}
 use Rattle.e79.proofs.figures_of_ordered.Goals as goal
