@@ -34,7 +34,7 @@ module _ (x : Refusal) where
   unfolding which_benchmark
   one_benchmark n = rw (ne_eqb x.number 5 n)
 
-  pub of_kind : x.number ≡ 22 → kind x.list ≡ whereabouts x
+  pub of_kind : x.number ≡ 22 → whereabouts x ≡ kind x.list
   unfolding whereabouts
   of_kind e = rw (eq-eqb x.number 22 e)
 

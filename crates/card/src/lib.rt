@@ -187,6 +187,7 @@ fn put_benchmark(buf: &mut [u8], at: usize, x: Refusal) -> usize
 }
 
 // Where a refusal points to: the kind of record, the record and its list, the benchmark, or the module. The caller owes the room.
+#[tactic(auto, using(crate::proofs::Whereabouts::of_kind))]
 fn put_whereabouts(buf: &mut [u8], at: usize, x: Refusal) -> usize
     requires { at + 50 ≤ length buf.old }
     ensures put { Put (whereabouts x) buf.old at result buf.new }

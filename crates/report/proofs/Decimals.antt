@@ -8,6 +8,8 @@ use native.Mathlib.Omega.{arith}
 use borrow.Author.Tests.{lt-ltb, le-ltb}
 use lib.Dec.{lit<, lit≤}
 use lib.ListN.{length, take, drop, get_or, length-append}
+use Rattle.filling.specs.Buffer.{written}
+use Rattle.filling.proofs.Written.{written-written}
 use Rattle.report.specs.Text.{reading}
 use Rattle.report.specs.Report.{digit, short, decimal_in, decimal, places}
 
@@ -45,6 +47,19 @@ decimal-more (suc n) h = more-digits n (suc n) h ∙ ap (λ l. l ++ (digit (suc 
 
 pub decimal-more-length : (n : ℕ) → 10 ≤ n → length (decimal n) ≡ length (decimal (n / 10)) + 1
 decimal-more-length n h = ap length (decimal-more n h) ∙ length-append (decimal (n / 10)) (digit n ∷ [])
+
+-- a number's length, and its bytes in a buffer, as `report::put_decimal` writes them: its only digit, or the digits before the last and the last
+pub below_length : (n : ℕ) → n < 10 → length (decimal n) ≡ 1
+below_length n h = ap length (decimal-below n h)
+
+pub more_length : (n : ℕ) → (n < 10 → ⊥) → length (decimal n) ≡ length (decimal (n / 10)) + 1
+more_length n h = decimal-more-length n (omega arith)
+
+pub below_written : (s : List ℕ) (at n : ℕ) → n < 10 → written s at (decimal n) ≡ written s at (digit n ∷ [])
+below_written s at n h = ap (written s at) (decimal-below n h)
+
+pub more_written : (s : List ℕ) (at n : ℕ) → (n < 10 → ⊥) → written s at (decimal n) ≡ written (written s at (decimal (n / 10))) (at + length (decimal (n / 10))) (digit n ∷ [])
+more_written s at n h = ap (written s at) (decimal-more n (omega arith)) ∙ sym (written-written s at (decimal (n / 10)) (digit n ∷ []))
 
 -- a number below 100 has one digit or two
 pub short-decimal : (n : ℕ) → n < 100 → short n ≡ decimal n

@@ -16,14 +16,14 @@ unfolding figure
 figure-space n d = omega arith
 
 -- a figure takes seven bytes with its space, and two where there is no base
-pub figure-none : (n d : ℕ) → d ≡ 0 → 2 ≡ length (figure n d)
+pub figure_none : (n d : ℕ) → d ≡ 0 → 2 ≡ length (figure n d)
 unfolding figure shown printed_of based
-figure-none n d e = rw e
+figure_none n d e = rw e
 
-pub figure-based : (n d : ℕ) → (d ≡ 0 → ⊥) → 7 ≡ length (figure n d)
+pub figure_based : (n d : ℕ) → (d ≡ 0 → ⊥) → 7 ≡ length (figure n d)
 unfolding figure shown places printed_of based
-figure-based n zero h = absurd (h refl)
-figure-based n (suc d) h = refl
+figure_based n zero h = absurd (h refl)
+figure_based n (suc d) h = refl
 
 figure_length-le : (n d : ℕ) → length (figure n d) ≤ 7
 unfolding figure shown places printed_of based

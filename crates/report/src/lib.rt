@@ -21,6 +21,7 @@ fn digit(n: u64) -> u8
 }
 
 // A number with no leading zero: the digits before the last, and the last. The caller owes the room.
+#[tactic(auto, using(crate::proofs::Decimals::below_length, crate::proofs::Decimals::more_length, crate::proofs::Decimals::below_written, crate::proofs::Decimals::more_written))]
 pub fn put_decimal(buf: &mut [u8], at: usize, n: u64) -> usize
     requires { at + length (decimal n) ≤ length buf.old }
     ensures { Put (decimal n) buf.old at result buf.new }
@@ -109,6 +110,7 @@ pub fn put_tool_line(buf: &mut [u8], at: usize, q: Quantities) -> usize
 }
 
 // How many bytes a figure takes with its space, by its denominator.
+#[tactic(auto, using(crate::proofs::Lengths::figure_none, crate::proofs::Lengths::figure_based))]
 fn figure_length(d: u64) -> usize
     ensures { FigureLength d result }
 {
