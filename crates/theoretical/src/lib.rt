@@ -340,6 +340,7 @@ pub fn list_standards(
 }
 
 // A unit record tested for 6, 7, 9 and 14, which look at it alone.
+#[tactic(auto, unfolding(crate::specs::Credits::own_grounds))]
 fn test_unit(h: Header, i: usize, u: UnitRecord) -> Verdict
     ensures { result ≡ own_grounds h.period h.modules i u }
 {
