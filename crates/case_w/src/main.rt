@@ -1,12 +1,14 @@
 // Case W of document 01: its 121 bytes, laid out by hand from the document's numbers, are decoded by the calls that the library reads a log by and
 // compared with those numbers; then the headers of shorter slices. Prints each entry that differs. Four entries have a number changed and have to
 // be told, so that a program that says nothing fails; the last line says what was compared.
+#![tactic(auto)]
+
 ghost use Rattle.std.specs.Prelude.{◌≡◌, ◌+◌, ◌*◌, ◌≤◌};
 ghost use Rattle.records.specs.Log.{header_of, state_at, standard_at, unit_at};
 ghost use Rattle.case_w.specs.Same.{same_header, same_state, same_standard, same_unit};
 
-use libc::STDOUT_FILENO;
 use records::Header;
+use std::io;
 
 // Header, eight state records, three standards, three unit records.
 const LOG: [u8; 121] = [
@@ -20,12 +22,11 @@ const LOG: [u8; 121] = [
     0x00, 0x06, 0xdd, 0xd0, 0x00, 0x12, 0xc0, 0x12, 0xc0,
 ];
 
-fn tell(same: bool, what: &[u8]) {
+fn tell(out: &impl Print, same: bool, what: &str) -> io::Result<()> {
     if same {
-        return;
+        return Ok(());
     }
-    io::write_all(STDOUT_FILENO, what);
-    io::write_all(STDOUT_FILENO, b" differs\n");
+    println!(out; "{what} differs")
 }
 
 // Whether these are the numbers of the header.
@@ -93,74 +94,79 @@ fn unit_is(
                 & ((r.actual == actual) & ((r.effective == effective) & (r.spare == 0)))))
 }
 
-fn states(log: &[u8; 121]) {
-    tell(state_is(log, 0, 0, 0, 0), b"state record 0");
-    tell(state_is(log, 1, 1, 0, 0), b"state record 1");
-    tell(state_is(log, 2, 2, 0, 0), b"state record 2");
-    tell(state_is(log, 3, 2, 7, 288000000), b"state record 3");
-    tell(state_is(log, 4, 1, 7, 532800000), b"state record 4");
-    tell(state_is(log, 5, 0, 7, 540000000), b"state record 5");
-    tell(state_is(log, 6, 1, 18, 568800000), b"state record 6");
-    tell(state_is(log, 7, 0, 18, 586800000), b"state record 7");
+fn states(out: &impl Print, log: &[u8; 121]) -> io::Result<()> {
+    tell(out, state_is(log, 0, 0, 0, 0), "state record 0")?;
+    tell(out, state_is(log, 1, 1, 0, 0), "state record 1")?;
+    tell(out, state_is(log, 2, 2, 0, 0), "state record 2")?;
+    tell(out, state_is(log, 3, 2, 7, 288000000), "state record 3")?;
+    tell(out, state_is(log, 4, 1, 7, 532800000), "state record 4")?;
+    tell(out, state_is(log, 5, 0, 7, 540000000), "state record 5")?;
+    tell(out, state_is(log, 6, 1, 18, 568800000), "state record 6")?;
+    tell(out, state_is(log, 7, 0, 18, 586800000), "state record 7")
 }
 
-fn standards_and_units(log: &[u8; 121], h: Header)
+fn standards_and_units(out: &impl Print, log: &[u8; 121], h: Header) -> io::Result<()>
     requires { (h.states ≡ 8) × (h.standards ≡ 3) }
 {
-    tell(standard_is(log, h, 0, 0, 0, 0, 1800000), b"standard 0");
-    tell(standard_is(log, h, 1, 1, 0, 0, 1800000), b"standard 1");
-    tell(standard_is(log, h, 2, 2, 0, 0, 1800000), b"standard 2");
-    tell(unit_is(log, h, 0, 0, 3600000, 280, 261), b"unit record 0");
-    tell(unit_is(log, h, 1, 1, 3600000, 290, 278), b"unit record 1");
-    tell(unit_is(log, h, 2, 2, 3600000, 150, 150), b"unit record 2");
+    tell(out, standard_is(log, h, 0, 0, 0, 0, 1800000), "standard 0")?;
+    tell(out, standard_is(log, h, 1, 1, 0, 0, 1800000), "standard 1")?;
+    tell(out, standard_is(log, h, 2, 2, 0, 0, 1800000), "standard 2")?;
+    tell(out, unit_is(log, h, 0, 0, 3600000, 280, 261), "unit record 0")?;
+    tell(out, unit_is(log, h, 1, 1, 3600000, 290, 278), "unit record 1")?;
+    tell(out, unit_is(log, h, 2, 2, 3600000, 150, 150), "unit record 2")
 }
 
 // An entry of each kind with one number changed.
-fn changed(log: &[u8; 121], h: Header)
+fn changed(out: &impl Print, log: &[u8; 121], h: Header) -> io::Result<()>
     requires { (h.states ≡ 8) × (h.standards ≡ 3) }
 {
     tell(
+        out,
         header_is(log, 604800000, 3, 8, 3, 4),
-        b"header with one unit record more",
-    );
+        "header with one unit record more",
+    )?;
     tell(
+        out,
         state_is(log, 7, 0, 18, 586800001),
-        b"state record 7 one millisecond later",
-    );
+        "state record 7 one millisecond later",
+    )?;
     tell(
+        out,
         standard_is(log, h, 2, 1, 0, 0, 1800000),
-        b"standard 2 as module 1's",
-    );
+        "standard 2 as module 1's",
+    )?;
     tell(
+        out,
         unit_is(log, h, 2, 2, 3600000, 150, 151),
-        b"unit record 2 with one unit more",
-    );
+        "unit record 2 with one unit more",
+    )
 }
 
 // The standards and the units stand where the header's counts put them: they are read where these are case W's.
-fn whole_log(log: &[u8; 121]) {
-    tell(header_is(log, 604800000, 3, 8, 3, 3), b"header");
-    states(log);
+fn whole_log(out: &impl Print, log: &[u8; 121]) -> io::Result<()> {
+    tell(out, header_is(log, 604800000, 3, 8, 3, 3), "header")?;
+    states(out, log)?;
     let h = records::read_header(log);
     if h.states == 8 {
         if h.standards == 3 {
-            standards_and_units(log, h);
-            changed(log, h);
+            standards_and_units(out, log, h)?;
+            changed(out, log, h)?;
         }
     }
+    Ok(())
 }
 
-fn main() {
+fn main(rt: HostRuntime) -> io::Result<()> {
     let log = LOG;
-    whole_log(&log);
-    tell(header_is(&log[..0], 0, 0, 0, 0, 0), b"header of 0 bytes");
+    whole_log(&rt, &log)?;
+    tell(&rt, header_is(&log[..0], 0, 0, 0, 0, 0), "header of 0 bytes")?;
     // 0x048190 as the top 24 bits of the period
     tell(
+        &rt,
         header_is(&log[..3], 604798976, 0, 0, 0, 0),
-        b"header of 3 bytes",
-    );
-    io::write_all(
-        STDOUT_FILENO,
-        b"case W: the header, 8 state records, 3 standards and 3 unit records compared, and the headers of 0 and 3 bytes; 4 changed entries told\n",
-    );
+        "header of 3 bytes",
+    )?;
+    rt.println(
+        "case W: the header, 8 state records, 3 standards and 3 unit records compared, and the headers of 0 and 3 bytes; 4 changed entries told",
+    )
 }

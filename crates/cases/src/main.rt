@@ -10,6 +10,8 @@
 //   log's, behind which its benchmarks stand), the length of the log and that of what is expected;
 // - the name, the log, and what is expected. Of 0, 7 and 8 that is a text: the report, or the line of the refusal, or nothing where `write_report`
 //   refuses. Of 1 to 6 and of 9 it is seven numbers of 8 bytes, as numbers.rt has them.
+#![tactic(auto)]
+
 mod buffer;
 mod numbers;
 mod texts;
@@ -18,7 +20,7 @@ ghost use Rattle.std.specs.Prelude.{◌≡◌, min, true};
 ghost use Rattle.cases.specs.Numbers.{Numbers};
 ghost use Rattle.cases.specs.Right.{measured_in, Right};
 
-use libc::{STDIN_FILENO, STDOUT_FILENO};
+use std::io;
 use std::num::wrapping_add_usize;
 
 fn least(a: usize, b: usize) -> usize
@@ -62,16 +64,16 @@ fn as_expected(kind: usize, log: &[u8], asked: usize, expected: &[u8]) -> bool
     }
 }
 
-fn tell(same: bool, name: &[u8]) {
+fn tell(out: &impl Print, same: bool, name: &[u8]) -> io::Result<()> {
     if same {
-        return;
+        return Ok(());
     }
-    io::write_all(STDOUT_FILENO, name);
-    io::write_all(STDOUT_FILENO, b" differs\n");
+    out.write_all(name)?;
+    out.write_all(b" differs\n")
 }
 
 // Runs the case that begins at `at`, and answers where the next one begins.
-fn run_case(data: &[u8], at: usize) -> usize {
+fn run_case(out: &impl Print, data: &[u8], at: usize) -> io::Result<usize> {
     let kind = number(data, at, 8);
     let title = number(data, wrapping_add_usize(at, 1), 8);
     let asked = number(data, wrapping_add_usize(at, 2), 32);
@@ -81,6 +83,7 @@ fn run_case(data: &[u8], at: usize) -> usize {
     let log = wrapping_add_usize(name, title);
     let expected = wrapping_add_usize(log, size);
     tell(
+        out,
         as_expected(
             kind,
             part(data, log, size),
@@ -88,24 +91,23 @@ fn run_case(data: &[u8], at: usize) -> usize {
             part(data, expected, length),
         ),
         part(data, name, title),
-    );
-    wrapping_add_usize(expected, length)
+    )?;
+    Ok(wrapping_add_usize(expected, length))
 }
 
 // Runs every case, and answers how many there are.
-fn run_all(data: &[u8]) -> usize {
+fn run_all(out: &impl Print, data: &[u8]) -> io::Result<usize> {
     let count = number(data, 0, 16);
     let mut at: usize = 2;
     for _ in 0..count {
-        at = run_case(data, at);
+        at = run_case(out, data, at)?;
     }
-    count
+    Ok(count)
 }
 
-fn main() {
+fn main(rt: HostRuntime) -> io::Result<()> {
     let mut space = [0u8; 400000];
-    let n = io::read_full(STDIN_FILENO, &mut space);
-    let count = run_all(&space[..n]);
-    io::print_decimal(STDOUT_FILENO, count as u64);
-    io::write_all(STDOUT_FILENO, b" cases run\n");
+    let n = reading::read_full(&mut rt.stdin(), &mut space)?;
+    let count = run_all(&rt, &space[..n])?;
+    println!(rt; "{count} cases run")
 }

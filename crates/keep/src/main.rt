@@ -1,46 +1,75 @@
 // Puts standard input in the place of the file that its first argument names, whole or not at all, and then writes out what the file holds. It is what
 // `saving` is tried with.
-use libc::{STDIN_FILENO, STDOUT_FILENO};
+#![tactic(auto)]
+
 use saving::Replaced;
+use std::env::FillError;
+use std::fs::File;
+use std::io;
+use std::rt::Env;
+
+// The error numbers of an argument that is missing, and of one that is too long.
+const EINVAL: i32 = 22;
+
+const ENAMETOOLONG: i32 = 36;
+
+// The line for what the system refused, and why.
+fn fail(rt: HostRuntime, what: &[u8], why: &io::Error) {
+    let mut space = [0u8; 256];
+    let err = rt.stderr();
+    let _ = err.write_all(what);
+    let _ = err.write_all(b": ");
+    let _ = err.write_all(saying::reason(why, &mut space).as_bytes());
+    let _ = err.write_all(b"\n");
+}
 
 // Writes out the file.
-fn show(path: &[u8]) {
-    let fd = os::open_read(path);
-    if fd < 0 {
-        os::fail(path);
-        return;
+fn show(rt: HostRuntime, path: &str) -> io::Result<()> {
+    match File::open(&rt, path) {
+        Err(why) => {
+            fail(rt, path.as_bytes(), &why);
+            Ok(())
+        }
+        Ok(mut file) => {
+            let mut space = [0u8; 65536];
+            let n = reading::read_full(&mut file, &mut space).unwrap_or(0);
+            rt.write_all(&space[..n])
+        }
     }
-    let mut space = io::large_buffer();
-    let n = io::read_full(fd, &mut space);
-    libc::close(fd);
-    io::write_all(STDOUT_FILENO, &space[..n]);
 }
 
 // Says why the new file could not be written.
-fn blame_new(path: &[u8]) {
+fn blame_new(rt: HostRuntime, path: &[u8], why: &io::Error) {
     let mut name = [0u8; 4200];
     let n = saving::put_name(path, &mut name);
-    os::fail(&name[..n]);
+    fail(rt, &name[..n], why);
 }
 
-fn keep(path: &[u8]) {
-    let mut input = io::large_buffer();
-    let n = io::read_full(STDIN_FILENO, &mut input);
-    let replaced = saving::replace(path, &input[..n]);
-    match replaced {
+fn keep(rt: HostRuntime, path: &[u8]) -> io::Result<()> {
+    let mut input = [0u8; 65536];
+    let n = reading::read_full(&mut rt.stdin(), &mut input)?;
+    match saving::replace(&rt, path, &input[..n]) {
         Replaced::Done => {}
-        Replaced::NotWritten => blame_new(path),
-        Replaced::NotRenamed => os::fail(path),
+        Replaced::NotWritten(why) => blame_new(rt, path, &why),
+        Replaced::NotRenamed(why) => fail(rt, path, &why),
     }
-    show(path);
+    match str::from_utf8(path) {
+        Ok(path) => show(rt, path),
+        Err(_) => Ok(()),
+    }
 }
 
-fn main() {
-    let mut path = io::buffer();
-    let n = os::arg(1, &mut path);
-    if os::errno() != 0 {
-        os::fail(b"keep");
-        return;
+fn main(rt: HostRuntime) -> io::Result<()> {
+    let mut path = [0u8; 4096];
+    match rt.arg(1, &mut path) {
+        Ok(n) => keep(rt, &path[..n]),
+        Err(FillError::NotPresent) => {
+            fail(rt, b"keep", &io::Error::from_raw_os_error(EINVAL));
+            Ok(())
+        }
+        Err(FillError::TooLong) => {
+            fail(rt, b"keep", &io::Error::from_raw_os_error(ENAMETOOLONG));
+            Ok(())
+        }
     }
-    keep(&path[..n]);
 }

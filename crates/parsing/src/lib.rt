@@ -1,4 +1,6 @@
 // Numbers read from text.
+#![tactic(auto)]
+
 ghost use Rattle.std.specs.Prelude.{◌-◌, ◌/◌, ◌^◌, ◌<◌, ◌≡◌, ◌&&◌, leb, ltb};
 ghost use Rattle.parsing.specs.Parsed.{ParsedFrom, DigitsRead};
 

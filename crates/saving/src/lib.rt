@@ -1,7 +1,14 @@
 // A file written whole or not at all. No contract can speak of a file: what `replace` does to one is tried by the program `keep` in samples/check-saving.
+#![tactic(auto)]
+
 ghost use Rattle.std.specs.Prelude.{◌≡◌, min};
 ghost use Rattle.filling.specs.Buffer.{AtFront};
 ghost use Rattle.saving.specs.Names.{new_name};
+
+use std::fs::{OpenFile, OpenOptions};
+use std::io::{ErrorKind, Write};
+use std::rt::Files;
+use std::{fs, io};
 
 fn least(a: usize, b: usize) -> usize
     ensures { result ≡ min a b }
@@ -18,37 +25,43 @@ pub fn put_name(path: &[u8], name: &mut [u8; 4200]) -> usize
 }
 
 // Writes all bytes to an open file, waits until they have reached the device, and closes it.
-fn fill(fd: i32, bytes: &[u8]) -> bool {
-    let kept = io::write_all(fd, bytes) && libc::fsync(fd) == 0;
-    let closed = libc::close(fd) == 0;
-    kept && closed
+fn fill<F: Write + OpenFile + Drop>(mut file: F, bytes: &[u8]) -> io::Result<()> {
+    file.write_all(bytes)?;
+    file.sync_all()
 }
 
-// What became of a replacement. Where it is not done, errno says why, and it is the file of `put_name` that could not be written, or the one of the path
+// What became of a replacement. Where it is not done it says why, and it is the file of `put_name` that could not be written, or the one of the path
 // itself that could not be replaced.
 #[derive(Drop)]
 pub enum Replaced {
     Done,
-    NotWritten,
-    NotRenamed,
+    NotWritten(io::Error),
+    NotRenamed(io::Error),
 }
 
 // Writes the bytes to a new file beside the one that the path names, and renames it into place once all of them are kept. Where that is not done the path
 // names what it named before, and the new file is gone. A new file that is there already, left by a run that was cut off, stays and is not written over.
-pub fn replace(path: &[u8], bytes: &[u8]) -> Replaced {
+// std knows a file by a path of UTF-8 alone: by any other it writes none.
+pub fn replace(files: &impl Files, path: &[u8], bytes: &[u8]) -> Replaced {
     let mut name = [0u8; 4200];
     let n = put_name(path, &mut name);
-    let fd = os::create(&name[..n]);
-    if fd < 0 {
-        return Replaced::NotWritten;
+    let (Ok(path), Ok(new)) = (str::from_utf8(path), str::from_utf8(&name[..n])) else {
+        return Replaced::NotWritten(io::Error::new(
+            ErrorKind::InvalidFilename,
+            "a name that is not UTF-8",
+        ));
+    };
+    let file = match OpenOptions::new().write(true).create_new(true).open(files, new) {
+        Ok(file) => file,
+        Err(why) => return Replaced::NotWritten(why),
+    };
+    if let Err(why) = fill(file, bytes) {
+        let _ = fs::remove_file(files, new);
+        return Replaced::NotWritten(why);
     }
-    if !fill(fd, bytes) {
-        os::unlink(&name[..n]);
-        return Replaced::NotWritten;
-    }
-    if os::rename(&name[..n], path) != 0 {
-        os::unlink(&name[..n]);
-        return Replaced::NotRenamed;
+    if let Err(why) = fs::rename(files, new, path) {
+        let _ = fs::remove_file(files, new);
+        return Replaced::NotRenamed(why);
     }
     Replaced::Done
 }

@@ -1,10 +1,13 @@
 // Lines on standard error: the program, what the line is about, and the reason.
+#![tactic(auto)]
+
 ghost use Rattle.std.specs.Prelude.{◌≡◌, map, ◌+◌, ◌≤◌, length};
 ghost use Rattle.filling.specs.Buffer.{Put, AtFront};
 ghost use Rattle.saying.specs.Names.{about};
 ghost use Rattle.saying.specs.Names.{shown_byte};
 
-use libc::STDERR_FILENO;
+use std::io;
+use std::io::{Cursor, Write};
 
 // A byte as it is shown: `?` for one that moves the cursor.
 fn shown_byte(b: u8) -> u8
@@ -41,22 +44,38 @@ fn put_about(name: &[u8], line: &mut [u8; 4200]) -> usize
     put_shown(line, program, name)
 }
 
-// The line for what the system refused: errno says why.
-pub fn fail(name: &[u8])
+// Why the system refused, in its own words: std puts the error's number behind them.
+pub fn reason<'a>(why: &io::Error, space: &'a mut [u8; 256]) -> &'a str {
+    let mut text = Cursor::new(&mut space[..]);
+    let _ = write!(text, "{why}");
+    let n = (text.position() as usize).min(256);
+    let said = str::from_utf8(&space[..n]).unwrap_or("");
+    match said.split_once(" (os error ") {
+        Some((words, _)) => words,
+        None => said,
+    }
+}
+
+// The line for what the system refused, and why.
+pub fn fail(err: &impl Print, name: &[u8], why: &io::Error)
     requires { length name.now ≤ 4096 }
 {
     let mut line = [0u8; 4200];
     let n = put_about(name, &mut line);
-    os::fail(&line[..n]);
+    let mut space = [0u8; 256];
+    let _ = err.write_all(&line[..n]);
+    let _ = err.write_all(b": ");
+    let _ = err.write_all(reason(why, &mut space).as_bytes());
+    let _ = err.write_all(b"\n");
 }
 
 // The line for any other reason, which ends in byte 10.
-pub fn complain(name: &[u8], reason: &[u8])
+pub fn complain(err: &impl Print, name: &[u8], reason: &[u8])
     requires { length name.now ≤ 4096 }
 {
     let mut line = [0u8; 4200];
     let n = put_about(name, &mut line);
-    io::write_all(STDERR_FILENO, &line[..n]);
-    io::write_all(STDERR_FILENO, b": ");
-    io::write_all(STDERR_FILENO, reason);
+    let _ = err.write_all(&line[..n]);
+    let _ = err.write_all(b": ");
+    let _ = err.write_all(reason);
 }
