@@ -8,7 +8,7 @@ sys.path.append(str(Path(__file__).resolve().parent.parent / "bindings" / "pytho
 try:
     from tool_log import Writer, pack_benchmarks
 except (OSError, AttributeError) as error:  # no shared object, or an older one
-    sys.exit(f"{error}\nNo library to write the logs with. First: rt staticlib tool_log_c && bindings/python/build")
+    sys.exit(f"{error}\nNo library to write the logs with. First: (cd crates/tool_log_c && rt lib) && bindings/python/build")
 
 SECOND = 1_000
 MINUTE = 60 * SECOND
