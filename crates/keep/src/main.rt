@@ -4,7 +4,6 @@
 
 use saving::Replaced;
 use std::env::FillError;
-use std::fs::File;
 use std::io;
 use std::rt::Env;
 
@@ -12,6 +11,13 @@ use std::rt::Env;
 const EINVAL: i32 = 22;
 
 const ENAMETOOLONG: i32 = 36;
+
+fn refusal(why: FillError) -> io::Error {
+    io::Error::from_raw_os_error(match why {
+        FillError::NotPresent => EINVAL,
+        FillError::TooLong => ENAMETOOLONG,
+    })
+}
 
 // The line for what the system refused, and why.
 fn fail(rt: HostRuntime, what: &[u8], why: &io::Error) {
@@ -24,16 +30,16 @@ fn fail(rt: HostRuntime, what: &[u8], why: &io::Error) {
 }
 
 // Writes out the file.
-fn show(rt: HostRuntime, path: &str) -> io::Result<()> {
-    match File::open(&rt, path) {
-        Err(why) => {
-            fail(rt, path.as_bytes(), &why);
-            Ok(())
-        }
+fn show(rt: HostRuntime, path: &[u8]) -> io::Result<()> {
+    match reading::open(&rt, path) {
         Ok(mut file) => {
             let mut space = [0u8; 65536];
             let n = reading::read_full(&mut file, &mut space).unwrap_or(0);
             rt.write_all(&space[..n])
+        }
+        Err(why) => {
+            fail(rt, path, &why);
+            Ok(())
         }
     }
 }
@@ -53,22 +59,15 @@ fn keep(rt: HostRuntime, path: &[u8]) -> io::Result<()> {
         Replaced::NotWritten(why) => blame_new(rt, path, &why),
         Replaced::NotRenamed(why) => fail(rt, path, &why),
     }
-    match str::from_utf8(path) {
-        Ok(path) => show(rt, path),
-        Err(_) => Ok(()),
-    }
+    show(rt, path)
 }
 
 fn main(rt: HostRuntime) -> io::Result<()> {
     let mut path = [0u8; 4096];
     match rt.arg(1, &mut path) {
         Ok(n) => keep(rt, &path[..n]),
-        Err(FillError::NotPresent) => {
-            fail(rt, b"keep", &io::Error::from_raw_os_error(EINVAL));
-            Ok(())
-        }
-        Err(FillError::TooLong) => {
-            fail(rt, b"keep", &io::Error::from_raw_os_error(ENAMETOOLONG));
+        Err(why) => {
+            fail(rt, b"keep", &refusal(why));
             Ok(())
         }
     }

@@ -85,22 +85,21 @@ fn read_input(rt: &impl Input, name: &mut [u8], input: &mut [u8]) -> Tried
     read_open(&mut rt.reader(), n, input)
 }
 
-// The file of a name. std knows a file by a name of UTF-8 alone.
+// Opens the file of a name. std knows a file by a name of UTF-8 alone.
+pub fn open<R: Files>(rt: &R, name: &[u8]) -> io::Result<R::File> {
+    match str::from_utf8(name) {
+        Ok(path) => File::open(rt, path),
+        Err(_) => Err(io::Error::new(ErrorKind::InvalidFilename, "a name that is not UTF-8")),
+    }
+}
+
+// The file of a name.
 fn read_file(rt: &impl Files, name: &[u8], input: &mut [u8]) -> Tried
     ensures name_value { result.named.name ≡ length name.now }
     ensures prefix_len { IsPrefixLen result.named.size input.new }
 {
-    let Ok(path) = str::from_utf8(name) else {
-        return not_read(
-            name.len(),
-            io::Error::new(ErrorKind::InvalidFilename, "a name that is not UTF-8"),
-        );
-    };
-    match File::open(rt, path) {
-        Ok(file) => {
-            let mut file = file;
-            read_open(&mut file, name.len(), input)
-        }
+    match open(rt, name) {
+        Ok(mut file) => read_open(&mut file, name.len(), input),
         Err(why) => not_read(name.len(), why),
     }
 }

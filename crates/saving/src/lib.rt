@@ -10,6 +10,9 @@ use std::io::{ErrorKind, Write};
 use std::rt::Files;
 use std::{fs, io};
 
+// The error number of a name that is longer than the system takes.
+const ENAMETOOLONG: i32 = 36;
+
 fn least(a: usize, b: usize) -> usize
     ensures { result ≡ min a b }
 {
@@ -45,13 +48,21 @@ pub enum Replaced {
 pub fn replace(files: &impl Files, path: &[u8], bytes: &[u8]) -> Replaced {
     let mut name = [0u8; 4200];
     let n = put_name(path, &mut name);
-    let (Ok(path), Ok(new)) = (str::from_utf8(path), str::from_utf8(&name[..n])) else {
+    let Ok(path) = str::from_utf8(path) else {
         return Replaced::NotWritten(io::Error::new(
             ErrorKind::InvalidFilename,
             "a name that is not UTF-8",
         ));
     };
-    let file = match OpenOptions::new().write(true).create_new(true).open(files, new) {
+    // A path that was cut inside a character is longer than any that a system takes.
+    let Ok(new) = str::from_utf8(&name[..n]) else {
+        return Replaced::NotWritten(io::Error::from_raw_os_error(ENAMETOOLONG));
+    };
+    let file = match OpenOptions::new()
+        .write(true)
+        .create_new(true)
+        .open(files, new)
+    {
         Ok(file) => file,
         Err(why) => return Replaced::NotWritten(why),
     };
