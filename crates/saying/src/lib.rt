@@ -46,9 +46,10 @@ fn put_about(name: &[u8], line: &mut [u8; 4200]) -> usize
 
 // Why the system refused, in its own words: std puts the error's number behind them.
 pub fn reason<'a>(why: &io::Error, space: &'a mut [u8; 256]) -> &'a str {
-    let mut text = Cursor::new(&mut space[..]);
+    let mut text = Cursor::new([0u8; 256]);
     let _ = write!(text, "{why}");
     let n = (text.position() as usize).min(256);
+    *space = text.into_inner();
     let said = str::from_utf8(&space[..n]).unwrap_or("");
     match said.split_once(" (os error ") {
         Some((words, _)) => words,
