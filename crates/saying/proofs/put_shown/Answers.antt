@@ -1,5 +1,4 @@
 -- `saying::put_shown` meets its contract: after i turns the first i bytes are copied as they are shown. Assumes nothing.
-use native.Mathlib.Omega.{arith}
 use Rattle.saying.proofs.Shown.{shown_none, shown_more, shown_all}
 use Rattle.saying.proofs.put_shown.Goals as goal
 
