@@ -111,9 +111,21 @@ fn standards_and_units(out: &impl Print, log: &[u8; 121], h: Header) -> io::Resu
     tell(out, standard_is(log, h, 0, 0, 0, 0, 1800000), "standard 0")?;
     tell(out, standard_is(log, h, 1, 1, 0, 0, 1800000), "standard 1")?;
     tell(out, standard_is(log, h, 2, 2, 0, 0, 1800000), "standard 2")?;
-    tell(out, unit_is(log, h, 0, 0, 3600000, 280, 261), "unit record 0")?;
-    tell(out, unit_is(log, h, 1, 1, 3600000, 290, 278), "unit record 1")?;
-    tell(out, unit_is(log, h, 2, 2, 3600000, 150, 150), "unit record 2")
+    tell(
+        out,
+        unit_is(log, h, 0, 0, 3600000, 280, 261),
+        "unit record 0",
+    )?;
+    tell(
+        out,
+        unit_is(log, h, 1, 1, 3600000, 290, 278),
+        "unit record 1",
+    )?;
+    tell(
+        out,
+        unit_is(log, h, 2, 2, 3600000, 150, 150),
+        "unit record 2",
+    )
 }
 
 // An entry of each kind with one number changed.
@@ -159,7 +171,11 @@ fn whole_log(out: &impl Print, log: &[u8; 121]) -> io::Result<()> {
 fn main(rt: HostRuntime) -> io::Result<()> {
     let log = LOG;
     whole_log(&rt, &log)?;
-    tell(&rt, header_is(&log[..0], 0, 0, 0, 0, 0), "header of 0 bytes")?;
+    tell(
+        &rt,
+        header_is(&log[..0], 0, 0, 0, 0, 0),
+        "header of 0 bytes",
+    )?;
     // 0x048190 as the top 24 bits of the period
     tell(
         &rt,
