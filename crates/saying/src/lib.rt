@@ -10,6 +10,7 @@ use std::io;
 use std::io::{Cursor, Write};
 
 // A byte as it is shown: `?` for one that moves the cursor.
+#[tactic(auto, unfolding(crate::specs::Names::shown_byte))]
 fn shown_byte(b: u8) -> u8
     ensures { result ≡ shown_byte b }
 {
