@@ -112,6 +112,7 @@ fn same(numbers: &[u64; 7], bytes: &[u8]) -> bool
 }
 
 // What a call of a kind, 1 to 6, answers.
+#[tactic(auto, unfolding(crate::specs::Numbers::answers_of))]
 fn answered(kind: usize, log: &[u8], m: usize) -> [u64; 7]
     ensures { result ≡ answers_of kind log.now m }
 {

@@ -122,13 +122,7 @@ fn print_benchmark_words(rt: HostRuntime, source: &[u8], log: &[u8], benchmarks:
 }
 
 // The figures of the log of this name, by the benchmarks of this source.
-fn print_supplemental(
-    rt: HostRuntime,
-    name: &[u8],
-    log: &[u8],
-    source: &[u8],
-    benchmarks: &[u8],
-)
+fn print_supplemental(rt: HostRuntime, name: &[u8], log: &[u8], source: &[u8], benchmarks: &[u8])
     requires { (length name.now ≤ 4096) × (length source.now ≤ 4096) }
 {
     let mut space = [0u8; 96];
@@ -172,11 +166,19 @@ fn supplemental(rt: HostRuntime) {
         return;
     }
     if !has_argument(rt, 3) {
-        saying::complain(&rt.stderr(), b"supplemental", b"LOG and BENCHMARKS are needed\n");
+        saying::complain(
+            &rt.stderr(),
+            b"supplemental",
+            b"LOG and BENCHMARKS are needed\n",
+        );
         return;
     }
     if is_input(rt, 2) && is_input(rt, 3) {
-        saying::complain(&rt.stderr(), b"supplemental", b"standard input cannot be both\n");
+        saying::complain(
+            &rt.stderr(),
+            b"supplemental",
+            b"standard input cannot be both\n",
+        );
         return;
     }
     read_both(rt);
@@ -211,7 +213,11 @@ fn explain(rt: HostRuntime) {
         return;
     }
     if !has_argument(rt, 2) {
-        saying::complain(&rt.stderr(), b"explain", b"which refusal? its number is missing\n");
+        saying::complain(
+            &rt.stderr(),
+            b"explain",
+            b"which refusal? its number is missing\n",
+        );
         return;
     }
     let mut text = [0u8; 4096];
