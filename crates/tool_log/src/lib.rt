@@ -2,7 +2,6 @@
 // every accepted log that a buyer looks for.
 #![tactic(auto)]
 
-
 // The state times, the quantities and the set of doubles, of a module and of the tool, each with its answer.
 pub use answering::{
     FiguresAnswer, QuantitiesAnswer, StateTimesAnswer, module_figures, module_quantities,
