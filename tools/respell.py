@@ -73,6 +73,11 @@ def renames(top):
 
 # where the rule would let two names fall together, or reads badly
 EXCEPTIONS = {"in-force": "in_force_lem", "is-for": "is_for_lem", "judged-time": "judged_time_lem", "own-time": "own_time_lem", "getD-bytes": "get_or-bytes", "caseWLog": "case_w_log", "caseWReport": "case_w_report"}
+# fields and constructors that share their old name with a lemma
+EXCEPTIONS |= {
+    n: n.replace("-", "_")
+    for n in "effective-actual actual-production production-uptime uptime-total one-digit of-log of-benchmarks by-report by-numbers by-write by-print by-supplemental".split()
+}
 
 
 def turn_text(path, text, turned):

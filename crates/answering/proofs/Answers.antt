@@ -24,7 +24,7 @@ use Rattle.answering.specs.declared.QuantitiesAnswer.TheVariants as quantities
 use Rattle.answering.specs.declared.FiguresAnswer.TheVariants as figures
 use Rattle.judging.specs.Working.{Consistent, JudgedInto}
 use Rattle.rules.proofs.Given.{Apart}
-use Rattle.answering.specs.Calls.{OnModule, of-log, stray}
+use Rattle.answering.specs.Calls.{OnModule, of_log, stray}
 use Rattle.answering.specs.Summaries.{SummaryOf}
 use Rattle.rules.proofs.SumLaws.{sum-add, sum_same}
 use Rattle.judging.proofs.Accepted.{tool_ordered}
@@ -93,7 +93,7 @@ unfolding verdict_on
 module-refusal s m x e = go (verdict s) refl e
   where
     go : (v : Verdict) → verdict s ≡ v → v then ground 7 0 m (leb (decode s).modules m) ≡ Refused x → OnModule s m x
-    go (Refused y) f g = let q : y ≡ x = cc in of-log (log-refusal s x (f ∙ ap {B = Verdict} Refused q))
+    go (Refused y) f g = let q : y ≡ x = cc in of_log (log-refusal s x (f ∙ ap {B = Verdict} Refused q))
     go Accepted f g = at (leb (decode s).modules m) refl g
       where
         at : (b : Bool) → leb (decode s).modules m ≡ b → ground 7 0 m b ≡ Refused x → OnModule s m x

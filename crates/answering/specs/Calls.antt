@@ -21,7 +21,7 @@ use Rattle.answering.specs.declared.FiguresAnswer.TheVariants as figures
 
 -- a call about module m: a refusal of the log, or 7 with list 0, for a module that an accepted log does not have
 pub data OnModule (s : List ℕ) (m : ℕ) (x : Refusal) : Type 0 where
-  of-log : OfLog s x → OnModule s m x
+  of_log : OfLog s x → OnModule s m x
   stray : verdict s ≡ Accepted → (decode s).modules ≤ m → x ≡ record { number = 7; list = no_list; place = m } → OnModule s m x
 
 -- ---- the six calls

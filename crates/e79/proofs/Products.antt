@@ -28,10 +28,10 @@ based-proper q h A =
     let U : 0 < q.uptime = omega arith in
     proper q.effective q.total (mul-fits binary64 _ _) (mul-pos (mul-pos (mul-pos h.begun U) P) A) h.begun (cancel q.total q.uptime q.production q.actual q.effective)
     (four
-    (quotient-within _ _ (record { part = h.uptime-total; few = h.few }) h.begun)
-    (quotient-within _ _ (record { part = h.production-uptime; few = omega arith }) U)
-    (quotient-within _ _ (record { part = h.actual-production; few = omega arith }) P)
-    (quotient-within _ _ (record { part = h.effective-actual; few = omega arith }) A))
+    (quotient-within _ _ (record { part = h.uptime_total; few = h.few }) h.begun)
+    (quotient-within _ _ (record { part = h.production_uptime; few = omega arith }) U)
+    (quotient-within _ _ (record { part = h.actual_production; few = omega arith }) P)
+    (quotient-within _ _ (record { part = h.effective_actual; few = omega arith }) A))
 
 -- ---- 0 is the right product where nothing is effective
 nothing-proper : (n d : ℕ) → n ≡ 0 → Proper nothing n d
@@ -62,8 +62,8 @@ accurate q h = record {
   multiplied = refl;
   nearest = quotient-nearest q.effective q.total (record { part = omega arith; few = h.few }) h.begun;
   proper = product-proper q.total q.uptime q.production q.actual q.effective h;
-  availability_nearest = efficiency-nearest q.uptime q.total (record { part = h.uptime-total; few = h.few });
-  operational_nearest = efficiency-nearest q.production q.uptime (record { part = h.production-uptime; few = omega arith });
-  rate_nearest = efficiency-nearest q.actual q.production (record { part = h.actual-production; few = omega arith });
-  quality_nearest = efficiency-nearest q.effective q.actual (record { part = h.effective-actual; few = omega arith });
+  availability_nearest = efficiency-nearest q.uptime q.total (record { part = h.uptime_total; few = h.few });
+  operational_nearest = efficiency-nearest q.production q.uptime (record { part = h.production_uptime; few = omega arith });
+  rate_nearest = efficiency-nearest q.actual q.production (record { part = h.actual_production; few = omega arith });
+  quality_nearest = efficiency-nearest q.effective q.actual (record { part = h.effective_actual; few = omega arith });
 }

@@ -4,10 +4,10 @@ use Rattle.e79.specs.declared.Quantities.{Quantities}
 
 -- none passes the one before it, and total time is above 0 and below 2 ^ 53, up to which a double holds every whole number
 pub record Ordered (q : Quantities) : Type 0 where
-  pub effective-actual : q.effective ≤ q.actual
-  pub actual-production : q.actual ≤ q.production
-  pub production-uptime : q.production ≤ q.uptime
-  pub uptime-total : q.uptime ≤ q.total
+  pub effective_actual : q.effective ≤ q.actual
+  pub actual_production : q.actual ≤ q.production
+  pub production_uptime : q.production ≤ q.uptime
+  pub uptime_total : q.uptime ≤ q.total
   pub begun : 0 < q.total
   pub few : q.total < 2 ^ 53
 

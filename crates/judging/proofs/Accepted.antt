@@ -55,17 +55,17 @@ theoretical-le period modules ss earlier i (u ∷ us) m e =
 -- ---- each module
 
 module _ (l : Log) (g : Grounded l) where
-  effective-actual : (m : ℕ) → effective_time l m ≤ actual_time l m
+  effective_actual : (m : ℕ) → effective_time l m ≤ actual_time l m
   unfolding effective_time actual_time unit_grounds
-  effective-actual m = theoretical-le l.period l.modules l.standards [] 0 l.units m g.units
+  effective_actual m = theoretical-le l.period l.modules l.standards [] 0 l.units m g.units
 
-  uptime-total : (m : ℕ) → m < l.modules → uptime l m ≤ l.period
+  uptime_total : (m : ℕ) → m < l.modules → uptime l m ≤ l.period
   unfolding uptime time_in
-  uptime-total m h = omega (arith, six_times_lem l.states l.period l.modules m g.states h)
+  uptime_total m h = omega (arith, six_times_lem l.states l.period l.modules m g.states h)
 
-  production-uptime : (m : ℕ) → time_in l 0 m ≤ uptime l m
+  production_uptime : (m : ℕ) → time_in l 0 m ≤ uptime l m
   unfolding uptime
-  production-uptime m = omega arith
+  production_uptime m = omega arith
 
   whole : (m : ℕ) → m < l.modules → all_times (module_times l m) ≡ l.period
   unfolding time_in
@@ -76,9 +76,9 @@ module _ (l : Log) (g : Grounded l) where
   time_le k m = state_time-le l.states l.period m k
 
   module _ (fast : first_of (fast_ground l) l.modules ≡ Accepted) where
-    actual-production : (m : ℕ) → m < l.modules → actual_time l m ≤ time_in l 0 m
+    actual_production : (m : ℕ) → m < l.modules → actual_time l m ≤ time_in l 0 m
     unfolding fast_ground
-    actual-production m h = ltb-false (time_in l 0 m) (actual_time l m) (not-met 16 0 m (ltb (time_in l 0 m) (actual_time l m)) (first_all (fast_ground l) l.modules fast m h))
+    actual_production m h = ltb-false (time_in l 0 m) (actual_time l m) (not-met 16 0 m (ltb (time_in l 0 m) (actual_time l m)) (first_all (fast_ground l) l.modules fast m h))
 
     pub consistent : Consistent l
     consistent =
@@ -88,10 +88,10 @@ module _ (l : Log) (g : Grounded l) where
           short = g.short;
           each = λ m h.
               record {
-                effective-actual = effective-actual m;
-                actual-production = actual-production m h;
-                production-uptime = production-uptime m;
-                uptime-total = uptime-total m h;
+                effective_actual = effective_actual m;
+                actual_production = actual_production m h;
+                production_uptime = production_uptime m;
+                uptime_total = uptime_total m h;
                 begun = g.begun;
                 few = omega (arith, g.short);
               };
@@ -112,10 +112,10 @@ module _ (l : Log) (s : Consistent l) where
   pub tool_ordered : Ordered (of_tool l)
   tool_ordered =
       record {
-        effective-actual = sum-le (effective_time l) (actual_time l) l.modules (λ m h. (s.each m h).effective-actual);
-        actual-production = sum-le (actual_time l) (time_in l 0) l.modules (λ m h. (s.each m h).actual-production);
-        production-uptime = sum-le (time_in l 0) (uptime l) l.modules (λ m h. (s.each m h).production-uptime);
-        uptime-total = sum-le (uptime l) (λ m. l.period) l.modules (λ m h. (s.each m h).uptime-total);
+        effective_actual = sum-le (effective_time l) (actual_time l) l.modules (λ m h. (s.each m h).effective_actual);
+        actual_production = sum-le (actual_time l) (time_in l 0) l.modules (λ m h. (s.each m h).actual_production);
+        production_uptime = sum-le (time_in l 0) (uptime l) l.modules (λ m h. (s.each m h).production_uptime);
+        uptime_total = sum-le (uptime l) (λ m. l.period) l.modules (λ m h. (s.each m h).uptime_total);
         begun = tool-begun;
         few = omega (arith, tool_total);
       }
@@ -132,10 +132,10 @@ module _ (l : Log) (s : Consistent l) where
       let o = tool_ordered in
       rw (
         within (sum_below (λ m. l.period) l.modules) (le_refl _),
-        within (sum_below (uptime l) l.modules) (omega (arith, o.uptime-total)),
-        within (sum_below (time_in l 0) l.modules) (omega (arith, o.uptime-total, o.production-uptime)),
-        within (sum_below (actual_time l) l.modules) (omega (arith, o.uptime-total, o.production-uptime, o.actual-production)),
-        within (sum_below (effective_time l) l.modules) (omega (arith, o.uptime-total, o.production-uptime, o.actual-production, o.effective-actual)),
+        within (sum_below (uptime l) l.modules) (omega (arith, o.uptime_total)),
+        within (sum_below (time_in l 0) l.modules) (omega (arith, o.uptime_total, o.production_uptime)),
+        within (sum_below (actual_time l) l.modules) (omega (arith, o.uptime_total, o.production_uptime, o.actual_production)),
+        within (sum_below (effective_time l) l.modules) (omega (arith, o.uptime_total, o.production_uptime, o.actual_production, o.effective_actual)),
         state_within_lem 1,
         state_within_lem 2,
         state_within_lem 3,

@@ -36,10 +36,10 @@ module _ (l : Log) (s : Consistent l) (n : ℕ) (en : n ≡ l.modules) where
     state_sum k low = summed (λ m. get_or T (6 * m + k) 0) (time_in l k) (λ m h. held.times m k h low)
 
     pub uptime-room : (n ≤ 64) × ((m : ℕ) → m < n → get_or U m 0 ≤ 31622400000)
-    uptime-room = room (λ m. get_or U m 0) (uptime l) held.uptimes (λ m h. (s.each m h).uptime-total)
+    uptime-room = room (λ m. get_or U m 0) (uptime l) held.uptimes (λ m h. (s.each m h).uptime_total)
 
     pub actual_room : (n ≤ 64) × ((m : ℕ) → m < n → get_or A m 0 ≤ 31622400000)
-    actual_room = room (λ m. get_or A m 0) (actual_time l) held.actuals (λ m h. let o = s.each m h in omega (arith, o.actual-production, o.production-uptime, o.uptime-total))
+    actual_room = room (λ m. get_or A m 0) (actual_time l) held.actuals (λ m h. let o = s.each m h in omega (arith, o.actual_production, o.production_uptime, o.uptime_total))
 
     pub effective_room : (n ≤ 64) × ((m : ℕ) → m < n → get_or E m 0 ≤ 31622400000)
-    effective_room = room (λ m. get_or E m 0) (effective_time l) held.effectives (λ m h. let o = s.each m h in omega (arith, o.effective-actual, o.actual-production, o.production-uptime, o.uptime-total))
+    effective_room = room (λ m. get_or E m 0) (effective_time l) held.effectives (λ m h. let o = s.each m h in omega (arith, o.effective_actual, o.actual_production, o.production_uptime, o.uptime_total))

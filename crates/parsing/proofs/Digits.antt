@@ -47,16 +47,16 @@ digits_append (b ∷ s) t h k = go (leb 48 b && leb b 57) h (λ e. digits_append
     go true h more = more h
     go false h more = h
 
-one-digit : (n : ℕ) → digits (digit n ∷ []) ≡ true
+one_digit : (n : ℕ) → digits (digit n ∷ []) ≡ true
 unfolding digits
-one-digit n = rw (le-leb 48 (digit n) (omega arith), le-leb (digit n) 57 (omega arith))
+one_digit n = rw (le-leb 48 (digit n) (omega arith), le-leb (digit n) 57 (omega arith))
 
 decimal-digits : (k n : ℕ) → n ≤ k → digits (decimal n) ≡ true
-decimal-digits zero n h = rw (decimal-below n (omega arith)) (one-digit n)
+decimal-digits zero n h = rw (decimal-below n (omega arith)) (one_digit n)
 decimal-digits (suc k) n h =
     elim (dec_lt n 10) [
-      | yes b ↦ rw (decimal-below n b) (one-digit n)
-      | no b ↦ rw (decimal-more n (omega arith)) (digits_append (decimal (n / 10)) (digit n ∷ []) (decimal-digits k (n / 10) (omega arith)) (one-digit n))
+      | yes b ↦ rw (decimal-below n b) (one_digit n)
+      | no b ↦ rw (decimal-more n (omega arith)) (digits_append (decimal (n / 10)) (digit n ∷ []) (decimal-digits k (n / 10) (omega arith)) (one_digit n))
     ]
 
 digit_at : (s : List ℕ) → digits s ≡ true → (i : ℕ) → i < length s → leb 48 (get_or s i 0) && leb (get_or s i 0) 57 ≡ true

@@ -56,10 +56,10 @@ heading-longest OfQuantities = lit≤ tt
 
 five-below : (b : ℕ) (q : Quantities) → Ordered q → q.total < b → Below b (quantities_of q)
 five-below b q o h =
-    let up : q.uptime < b = omega (arith, o.uptime-total) in
-    let made : q.production < b = omega (arith, o.production-uptime) in
-    let actual : q.actual < b = omega (arith, o.actual-production) in
-    (h, (up, (made, (actual, (omega (arith, o.effective-actual), tt)))))
+    let up : q.uptime < b = omega (arith, o.uptime_total) in
+    let made : q.production < b = omega (arith, o.production_uptime) in
+    let actual : q.actual < b = omega (arith, o.actual_production) in
+    (h, (up, (made, (actual, (omega (arith, o.effective_actual), tt)))))
 
 module _ (l : Log) (ok : Consistent l) where
   of_module_lem : (t : Table) (m : ℕ) → m < l.modules → length (numbers (told t (module_times l m) (of_module l m))) ≤ 73

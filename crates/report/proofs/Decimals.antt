@@ -14,10 +14,10 @@ use Rattle.report.specs.Text.{reading}
 use Rattle.report.specs.Report.{digit, short, decimal_in, decimal, places}
 
 -- a number of one digit
-one-digit : (k n : ℕ) → n < 10 → decimal_in k n ≡ digit n ∷ []
+one_digit : (k n : ℕ) → n < 10 → decimal_in k n ≡ digit n ∷ []
 unfolding decimal_in
-one-digit zero n h = refl
-one-digit (suc k) n h = rw (lt-ltb n 10 h)
+one_digit zero n h = refl
+one_digit (suc k) n h = rw (lt-ltb n 10 h)
 
 more-digits : (k n : ℕ) → 10 ≤ n → decimal_in (suc k) n ≡ decimal_in k (n / 10) ++ (digit n ∷ [])
 unfolding decimal_in
@@ -25,11 +25,11 @@ more-digits k n h = rw (le-ltb n 10 h)
 
 -- n + 1 digits are enough for n, and more add none
 enough : (k j n : ℕ) → n ≤ k → n ≤ j → decimal_in k n ≡ decimal_in j n
-enough zero j n h l = one-digit zero n (omega arith) ∙ sym (one-digit j n (omega arith))
-enough (suc k) zero n h l = one-digit (suc k) n (omega arith) ∙ sym (one-digit zero n (omega arith))
+enough zero j n h l = one_digit zero n (omega arith) ∙ sym (one_digit j n (omega arith))
+enough (suc k) zero n h l = one_digit (suc k) n (omega arith) ∙ sym (one_digit zero n (omega arith))
 enough (suc k) (suc j) n h l =
     elim (dec_lt n 10) [
-      | yes b ↦ one-digit (suc k) n b ∙ sym (one-digit (suc j) n b)
+      | yes b ↦ one_digit (suc k) n b ∙ sym (one_digit (suc j) n b)
       | no b ↦
           more-digits k n (omega arith)
           ∙ ap (λ s. s ++ (digit n ∷ [])) (enough k j (n / 10) (omega arith) (omega arith))
@@ -38,7 +38,7 @@ enough (suc k) (suc j) n h l =
 
 pub decimal-below : (n : ℕ) → n < 10 → decimal n ≡ digit n ∷ []
 unfolding decimal
-decimal-below n h = one-digit n n h
+decimal-below n h = one_digit n n h
 
 pub decimal-more : (n : ℕ) → 10 ≤ n → decimal n ≡ decimal (n / 10) ++ (digit n ∷ [])
 unfolding decimal
@@ -95,7 +95,7 @@ unfolding reading decimal_in
 reads zero n h = omega arith
 reads (suc k) n h =
     elim (dec_lt n 10) [
-      | yes b ↦ rw (one-digit (suc k) n b) (omega arith)
+      | yes b ↦ rw (one_digit (suc k) n b) (omega arith)
       | no b ↦ rw (more-digits k n (omega arith), reading-last, reads k (n / 10) (omega arith)) (omega arith)
     ]
 
@@ -112,7 +112,7 @@ leads : (k n : ℕ) → n ≤ k → 0 < n → 48 < get_or (decimal_in k n) 0 0
 leads zero n h l = omega arith
 leads (suc k) n h l =
     elim (dec_lt n 10) [
-      | yes b ↦ rw (one-digit (suc k) n b) (omega arith)
+      | yes b ↦ rw (one_digit (suc k) n b) (omega arith)
       | no b ↦ rw (more-digits k n (omega arith)) (still-leads (decimal_in k (n / 10)) (digit n ∷ []) (leads k (n / 10) (omega arith) (omega arith)))
     ]
 

@@ -100,4 +100,4 @@ pub record FigureLength (d r : ℕ) : Type 0 where
 pub record ModuleLength (m : ℕ) (q : Quantities) (r : ℕ) : Type 0 where
   pub size : r ≡ length (module_line m q)
   pub within : r ≤ 38
-  pub one-digit : m < 10 → r ≤ 37
+  pub one_digit : m < 10 → r ≤ 37

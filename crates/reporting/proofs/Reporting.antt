@@ -23,7 +23,7 @@ use Rattle.report.proofs.Lengths.{heading-length, length-report}
 use Rattle.report.proofs.Tables.{table_length}
 use Rattle.filling.proofs.Written.{written-front, at_front, front-more}
 use Rattle.judging.specs.Working.{Consistent}
-use Rattle.reporting.specs.Reports.{printed_by, printed, Prints, report_text, verdict_for, of-log, short, Examined, written_by, written_part, Written}
+use Rattle.reporting.specs.Reports.{printed_by, printed, Prints, report_text, verdict_for, of_log, short, Examined, written_by, written_part, Written}
 use Rattle.rules.proofs.KnownRefusals.{log-refusal}
 
 -- ---- the length of a report
@@ -51,7 +51,7 @@ module _ (s : List ℕ) (room : ℕ) (v : Verdict) (answer : v ≡ verdict s) wh
 
   pub examined_refused : (x : Refusal) → v ≡ Refused x → Examined s room v
   examined_refused x e =
-      record { answer = e ∙ sym (room_refused x e); refusal = λ y f. of-log (log-refusal s y (sym answer ∙ f)) }
+      record { answer = e ∙ sym (room_refused x e); refusal = λ y f. of_log (log-refusal s y (sym answer ∙ f)) }
 
   pub examined_short : (w : Verdict) → v ≡ Accepted → room < length (report_text (decode s)) → w ≡ Refused (record { number = 18; list = 0; place = 0 }) → Examined s room w
   examined_short w e h f =

@@ -24,7 +24,7 @@ unfolding verdict report_text decode
 verdict_for s room = verdict s then ground 18 no_list 0 (ltb room (length (report_text (decode s))))
 
 pub data ForRoom (s : List ℕ) (room : ℕ) (x : Refusal) : Type 0 where
-  of-log : OfLog s x → ForRoom s room x
+  of_log : OfLog s x → ForRoom s room x
   short : verdict s ≡ Accepted → room < length (report_text (decode s)) → x ≡ record { number = 18; list = no_list; place = 0 } → ForRoom s room x
 
 pub record Examined (s : List ℕ) (room : ℕ) (r : Verdict) : Type 0 where

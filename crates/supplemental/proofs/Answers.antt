@@ -29,7 +29,7 @@ use Rattle.benchmarks.proofs.Taking.{count_is}
 use Rattle.supplemental.specs.declared.Supplemental.{Supplemental}
 use Rattle.supplemental.specs.declared.SupplementalAnswer.TheVariants as supplemental
 use Rattle.supplemental.specs.Supplemental.{supplemental_of, AllRounded}
-use Rattle.supplemental.specs.Calls.{WithBenchmarks, of-log, of_benchmarks_lem, ToolSupplemental}
+use Rattle.supplemental.specs.Calls.{WithBenchmarks, of_log, of_benchmarks, ToolSupplemental}
 
 pub supplemental-apart : Apart supplemental.Answered supplemental.Refused
 supplemental-apart = record { never = λ a x e. (let z : ◌≡◌ {A = ℕ} 0 1 = cc in omega arith); one_answer = λ a b e. (cc); one_refusal = λ x y e. (cc) }
@@ -56,7 +56,7 @@ module _ (s b : List ℕ) where
 
   pub log_refused : (x : Refusal) → OfLog s x → ToolSupplemental s b (supplemental.Refused x)
   unfolding verdict_with
-  log_refused x o = given_refused supplemental-apart (verdict_with s b) _ _ (WithBenchmarks s b) x (ap (λ (v : Verdict). v then benchmark_grounds (decode s) b) o.met) (of-log o)
+  log_refused x o = given_refused supplemental-apart (verdict_with s b) _ _ (WithBenchmarks s b) x (ap (λ (v : Verdict). v then benchmark_grounds (decode s) b) o.met) (of_log o)
 
   -- ---- one that is accepted
 
@@ -88,7 +88,7 @@ module _ (s b : List ℕ) where
     tested-with = ap (λ (v : Verdict). v then benchmark_grounds (decode s) b) a
 
     benchmark-refused : (x : Refusal) → benchmark_grounds (decode s) b ≡ Refused x → ToolSupplemental s b (supplemental.Refused x)
-    benchmark-refused x e = given_refused supplemental-apart (verdict_with s b) _ _ (WithBenchmarks s b) x (tested-with ∙ e) (of_benchmarks_lem a e ((known-benchmarks (decode s) b).known x e))
+    benchmark-refused x e = given_refused supplemental-apart (verdict_with s b) _ _ (WithBenchmarks s b) x (tested-with ∙ e) (of_benchmarks a e ((known-benchmarks (decode s) b).known x e))
 
     -- of another length
     pub length_refused : (length b ≡ 14 * (header_of s).standards → ⊥) → ToolSupplemental s b (supplemental.Refused (record { number = 5; list = 4; place = 0 }))

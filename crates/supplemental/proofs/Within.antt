@@ -86,7 +86,7 @@ module _ (s : List ℕ) (accepted : verdict s ≡ Accepted) where
 
     module _ (o : Ordered (of_tool log)) where
       portion : (n : ℕ) → n ≤ (of_tool log).effective → Portion n (of_tool log).total
-      portion n h = record { part = omega (arith, h, o.effective-actual, o.actual-production, o.production-uptime, o.uptime-total); few = o.few }
+      portion n h = record { part = omega (arith, h, o.effective_actual, o.actual_production, o.production_uptime, o.uptime_total); few = o.few }
 
       -- each sum may be divided by the total time
       pub portions : (S : List ℕ) → S ≡ sums_to log at (standards_in log)

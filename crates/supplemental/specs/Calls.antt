@@ -14,8 +14,8 @@ use Rattle.supplemental.specs.Supplemental.{supplemental_of, AllRounded}
 
 -- a refusal of the log, or of the benchmarks of an accepted one
 pub data WithBenchmarks (s b : List ℕ) (x : Refusal) : Type 0 where
-  of-log : OfLog s x → WithBenchmarks s b x
-  of_benchmarks_lem : verdict s ≡ Accepted → benchmark_grounds (decode s) b ≡ Refused x → Known benchmark_refusals x → WithBenchmarks s b x
+  of_log : OfLog s x → WithBenchmarks s b x
+  of_benchmarks : verdict s ≡ Accepted → benchmark_grounds (decode s) b ≡ Refused x → Known benchmark_refusals x → WithBenchmarks s b x
 
 -- of the bytes s of a log and b of its benchmarks
 abbrev pub ToolSupplemental : List ℕ → List ℕ → SupplementalAnswer → Type 0

@@ -98,4 +98,4 @@ module _ (buf : List ℕ) (at : ℕ) (r : Verdict) where
   unfolding finish_verdict
   judged_before h e =
       let within = le-ltb (length buf) at h in
-      record { answer = rw within e; refusal = λ x m. OfFinishing.of-log (log-refusal (take at buf) x (sym e ∙ m)) }
+      record { answer = rw within e; refusal = λ x m. OfFinishing.of_log (log-refusal (take at buf) x (sym e ∙ m)) }

@@ -96,7 +96,7 @@ finish_verdict buf at = ground 18 no_list 0 (ltb (length buf) at) then verdict (
 -- why it refuses: 18, or as the reader does
 pub data OfFinishing (buf : List ℕ) (at : ℕ) (x : Refusal) : Type 0 where
   past : length buf < at → x ≡ record { number = 18; list = no_list; place = 0 } → OfFinishing buf at x
-  of-log : OfLog (take at buf) x → OfFinishing buf at x
+  of_log : OfLog (take at buf) x → OfFinishing buf at x
 
 pub record Finished (buf : List ℕ) (at : ℕ) (r : Verdict) : Type 0 where
   pub answer : r ≡ finish_verdict buf at

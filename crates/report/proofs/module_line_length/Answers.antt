@@ -9,7 +9,7 @@ returns-then-m-lt10 c =
     record {
       size = omega (arith, module-length m c.args.q, short-one m c.if-m-lt10.true);
       within = omega arith;
-      one-digit = λ _. omega arith;
+      one_digit = λ _. omega arith;
     }
 
 pub returns-else-m-lt10 : goal.returns-else-m-lt10
@@ -18,5 +18,5 @@ returns-else-m-lt10 c =
     record {
       size = omega (arith, module-length m c.args.q, short-two m c.if-m-lt10.false);
       within = omega arith;
-      one-digit = λ h. omega arith;
+      one_digit = λ h. omega arith;
     }
