@@ -240,7 +240,11 @@ fn print_set(
     actual: u64,
     effective: u64,
 ) -> io::Result<()> {
-    print!(out; "{total} {uptime} {production} {actual} {effective}")?;
+    print!(out; "{total}")?;
+    print_next(out, uptime)?;
+    print_next(out, production)?;
+    print_next(out, actual)?;
+    print_next(out, effective)?;
     print_figures(
         out,
         Quantities {
@@ -252,6 +256,10 @@ fn print_set(
         },
     )?;
     print!(out; "\n")
+}
+
+fn print_next(out: &impl Print, n: u64) -> io::Result<()> {
+    print!(out; " {n}")
 }
 
 fn print_figures(out: &impl Print, q: Quantities) -> io::Result<()> {
@@ -324,9 +332,9 @@ fn print_printed(out: &impl Print, numerator: u64, denominator: u64) -> io::Resu
 
 // Ten-thousandths, with a point and four places.
 fn print_four_places(out: &impl Print, f: u64) -> io::Result<()> {
-    let whole = f / 10000;
+    print_next(out, f / 10000)?;
     let places = f % 10000;
-    print!(out; " {whole}.{places:04}")
+    print!(out; ".{places:04}")
 }
 
 fn print_no_base(out: &impl Print) -> io::Result<()> {
