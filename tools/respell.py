@@ -1,5 +1,6 @@
 """Brings the repository's own words to today's spelling: definitions and lemmas in snake case, types and modules in camel case, a dash only between
-two words that are defined. usage: respell.py [TOP] [--list]. Run once, after the toolchain's port.py."""
+two words that are defined. usage: respell.py [TOP] [--list]. For a tree that is fresh from the toolchain's port.py, and once: a tree that is turned already
+loses by it."""
 
 import glob
 import os
@@ -93,6 +94,8 @@ def turn_text(path, text, turned):
 
 def main():
     args = [a for a in sys.argv[1:] if not a.startswith("--")]
+    if set(sys.argv[1:]) - set(args) - {"--list"}:
+        sys.exit(__doc__)
     top = args[0] if args else "."
     turned = renames(top)
     if "--list" in sys.argv:

@@ -18,7 +18,7 @@ pub use sums::{quantities_of, times_of, tool_sums, tool_times};
 
 // The answer to a log, what its header says of period and modules, and the working totals: for each module six state times, the uptime, and the
 // theoretical times for actual and for effective units. The totals are the log's where the verdict accepts.
-#[derive(Drop)]
+#[derive(Clone, Copy)]
 pub struct Judgement {
     pub verdict: Verdict,
     pub period: u64,

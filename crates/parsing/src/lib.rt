@@ -4,7 +4,7 @@
 ghost use Rattle.std.specs.Prelude.{◌-◌, ◌/◌, ◌^◌, ◌<◌, ◌≡◌, ◌&&◌, leb, ltb};
 ghost use Rattle.parsing.specs.Parsed.{ParsedFrom, DigitsRead};
 
-#[derive(Drop)]
+#[derive(Clone, Copy)]
 pub enum Parsed {
     Number(u64),
     NoNumber,

@@ -14,7 +14,7 @@ use std::rt::{Env, Files};
 const ENAMETOOLONG: i32 = 36;
 
 // What came of it: whether the log was read, how many bytes its name takes at the front of one array, and the log at the front of the other.
-#[derive(Drop)]
+#[derive(Clone, Copy)]
 pub struct Named {
     pub is_read: bool,
     pub name: usize,
