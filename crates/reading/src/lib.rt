@@ -1,7 +1,7 @@
 // A log, or its benchmarks, read from the file that an argument names, or from standard input. What is said of a log here holds of both.
 #![tactic(auto)]
 
-ghost use Rattle.std.specs.Prelude.{◌≡◌, ◌≤◌, length, IfOk};
+ghost use Rattle.std.specs.Prelude.{◌≡◌, ◌≤◌, length, IfOk, IsUtf8};
 ghost use Rattle.io.specs.Counts.{IsPrefixLen};
 
 use std::env::FillError;
@@ -85,8 +85,10 @@ fn read_input(rt: &impl Input, name: &mut [u8], input: &mut [u8]) -> Tried
     read_open(&mut rt.reader(), n, input)
 }
 
-// Opens the file of a name. std knows a file by a name of UTF-8 alone.
-pub fn open<R: Files>(rt: &R, name: &[u8]) -> io::Result<R::File> {
+// Opens the file of a name. std knows a file by a name of UTF-8 alone: no other is opened.
+pub fn open<R: Files>(rt: &R, name: &[u8]) -> io::Result<R::File>
+    ensures { IfOk result (λ file. IsUtf8 name.now) }
+{
     match str::from_utf8(name) {
         Ok(path) => File::open(rt, path),
         Err(_) => Err(io::Error::new(ErrorKind::InvalidFilename, "a name that is not UTF-8")),

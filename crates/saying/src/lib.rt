@@ -5,6 +5,7 @@ ghost use Rattle.std.specs.Prelude.{◌≡◌, map, ◌+◌, ◌≤◌, length};
 ghost use Rattle.filling.specs.Buffer.{Put, AtFront};
 ghost use Rattle.saying.specs.Names.{about};
 ghost use Rattle.saying.specs.Names.{shown_byte};
+ghost use Rattle.saying.specs.Reasons.{WithoutNumber};
 
 use std::io;
 use std::io::{Cursor, Write};
@@ -45,17 +46,25 @@ fn put_about(name: &[u8], line: &mut [u8; 4200]) -> usize
     put_shown(line, program, name)
 }
 
-// Why the system refused, in its own words: std puts the error's number behind them.
-pub fn reason<'a>(why: &io::Error, space: &'a mut [u8; 256]) -> &'a str {
-    let mut text = Cursor::new([0u8; 256]);
-    let _ = write!(text, "{why}");
-    let n = (text.position() as usize).min(256);
-    *space = text.into_inner();
-    let said = str::from_utf8(&space[..n]).unwrap_or("");
+// An error's words: std puts the system's number behind them.
+fn without_number(said: &str) -> &str
+    ensures { WithoutNumber said.now result.now }
+{
     match said.split_once(" (os error ") {
         Some((words, _)) => words,
         None => said,
     }
+}
+
+// Why the system refused, in its own words.
+pub fn reason<'a>(why: &io::Error, space: &'a mut [u8; 256]) -> &'a str
+    ensures { length result.now ≤ 256 }
+{
+    let mut text = Cursor::new([0u8; 256]);
+    let _ = write!(text, "{why}");
+    let n = (text.position() as usize).min(256);
+    *space = text.into_inner();
+    without_number(str::from_utf8(&space[..n]).unwrap_or(""))
 }
 
 // The line for what the system refused, and why.
