@@ -1,11 +1,12 @@
 // What the program prints of E79's appendix: the supplemental figures, or why a log or its benchmarks are refused. No public call has a `requires`.
+// A buffer and a place: see `filling`.
 #![tactic(auto)]
 
 ghost use Rattle.std.specs.Prelude.{◌+◌, ◌≤◌, length};
 ghost use Rattle.filling.specs.Buffer.{Put, AtFront};
 ghost use Rattle.appendix.specs.Lines.{figure_line, supplemental_text, supplemental_printed, supplemental_words};
 
-use supplemental::{Supplemental, SupplementalAnswer};
+use supplemental::Supplemental;
 
 // The line of a figure. The caller owes the room.
 fn put_figure(buf: &mut [u8], at: usize, name: &[u8], figure: u64) -> usize
@@ -36,10 +37,9 @@ fn put_supplemental(buf: &mut [u8], f: Supplemental) -> usize
 pub fn print_supplemental(log: &[u8], benchmarks: &[u8], buf: &mut [u8; 96]) -> usize
     ensures { AtFront (supplemental_printed log.now benchmarks.now) 96 buf.old result buf.new }
 {
-    let answer = supplemental::tool_supplemental(log, benchmarks);
-    match answer {
-        SupplementalAnswer::Answered(f) => put_supplemental(buf, f),
-        SupplementalAnswer::Refused(x) => report::put_refused_line(buf, x),
+    match supplemental::tool_supplemental(log, benchmarks) {
+        Ok(f) => put_supplemental(buf, f),
+        Err(x) => report::put_refused_line(buf, x),
     }
 }
 
@@ -48,9 +48,5 @@ pub fn print_supplemental(log: &[u8], benchmarks: &[u8], buf: &mut [u8; 96]) -> 
 pub fn print_supplemental_words(log: &[u8], benchmarks: &[u8], buf: &mut [u8; 512]) -> usize
     ensures { AtFront (supplemental_words log.now benchmarks.now) 512 buf.old result buf.new }
 {
-    let answer = supplemental::tool_supplemental(log, benchmarks);
-    match answer {
-        SupplementalAnswer::Answered(_) => 0,
-        SupplementalAnswer::Refused(x) => card::words_of(x, buf),
-    }
+    printing::put_words(&supplemental::tool_supplemental(log, benchmarks), buf)
 }

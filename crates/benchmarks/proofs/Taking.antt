@@ -1,6 +1,6 @@
 -- The benchmarks tested and added, one by one; no sum of them comes near 2 ^ 63.
 -- Assumes nothing.
-use mathlib.Core.Path.{◌≡◌, refl, sym, ap, ◌∙◌}
+use mathlib.Core.Path.{◌≡◌, refl, ap, ◌∙◌}
 use mathlib.Core.List.{List, [], ◌∷◌, ◌++◌, map, map-append}
 use Prim.Native.Nat.{ℕ, zero, suc, ◌+◌, ◌*◌, ◌^◌, ◌≤◌, ◌<◌}
 use native.Mathlib.Nat.{mul-le-mul}
@@ -10,16 +10,11 @@ use Rattle.records.specs.declared.Header.{Header}
 use Rattle.records.specs.Log.{Log, up_to, header_of, standard_at, decode}
 use Rattle.records.proofs.UpTo.{length_up_to, up_to_at}
 use Rattle.records.proofs.Widths.{standard-time-low}
-use Rattle.rules.specs.declared.Refusal.{Refusal}
-use Rattle.rules.specs.declared.Verdict.{Verdict}
-use Rattle.rules.specs.declared.Verdict.TheVariants.{Accepted, Refused}
-use Rattle.rules.specs.Grounds.{first_of}
 use Rattle.rules.specs.Quantities.{sum_below}
-use Rattle.rules.proofs.FirstGround.{refused-not, first_none, first_more, first_stop}
 use Rattle.rules.proofs.SumLaws.{sum_more, sum_low}
 use Rattle.benchmarks.specs.declared.Benchmark.{Benchmark}
-use Rattle.benchmarks.specs.Benchmarks.{benchmark_from, benchmark_at, standards_in, time_at, effective_judged, ground_at, judged_time, units_time}
-use Rattle.benchmarks.specs.Taking.{sums_to, grown, Narrow, Below, Lent, Taken, AllTaken}
+use Rattle.benchmarks.specs.Benchmarks.{benchmark_from, benchmark_at, standards_in, time_at, effective_judged, judged_time, units_time}
+use Rattle.benchmarks.specs.Taking.{sums_to, grown, Narrow, Below, Lent}
 
 -- ---- what is read
 
@@ -52,8 +47,8 @@ module _ (s : List ℕ) (h : Header) (e : h ≡ header_of s) where
 low_product : (a b : ℕ) → a < 2 ^ 27 → b < 2 ^ 27 → a * b ≤ 18014398241046529
 low_product a b h l = mul-le-mul {n₁ = a} {m₁ = b} {n₂ = 134217727} {m₂ = 134217727} (omega arith) (omega arith)
 
-pub grow-fits : (sum units time : ℕ) → sum < 2 ^ 63 → units < 2 ^ 27 → time < 2 ^ 27 → (units * time < 2 ^ 64) × (sum + units * time < 2 ^ 64)
-grow-fits sum units time h l m = (omega (arith, low_product units time l m), omega (arith, low_product units time l m))
+pub grow_fits : (sum units time : ℕ) → sum < 2 ^ 63 → units < 2 ^ 27 → time < 2 ^ 27 → (units * time < 2 ^ 64) × (sum + units * time < 2 ^ 64)
+grow_fits sum units time h l m = (omega (arith, low_product units time l m), omega (arith, low_product units time l m))
 
 module _ (s b J : List ℕ) (h : Header) (lent : Lent s h b J) where
   abbrev l : Log
@@ -77,43 +72,9 @@ module _ (s b J : List ℕ) (h : Header) (lent : Lent s h b J) where
       below (units_time l (benchmark_at b)) (λ k q. low_product (benchmark_at b k).units (time_at l k) (narrow b (112 * k)).3 (time_low s h lent.header k (omega arith))),
     )
 
--- ---- one benchmark
+-- ---- one more benchmark
 
 module _ (l : Log) (at : ℕ → Benchmark) (i : ℕ) where
-  pub taken_refused : (r : Verdict) (x : Refusal) (S : List ℕ) → r ≡ ground_at l at i → r ≡ Refused x → Taken l at i r S
-  taken_refused r x S a e = record { answer = a; summed = λ f. absurd (refused-not (sym e ∙ f)) }
-
-  sums-more : grown (sums_to l at i) (time_at l i) (effective_judged l i) (at i) ≡ sums_to l at (i + 1)
-  sums-more =
+  pub sums_more : grown (sums_to l at i) (time_at l i) (effective_judged l i) (at i) ≡ sums_to l at (i + 1)
+  sums_more =
       rw (sum_more (judged_time (λ b. b.reference) l at) i, sum_more (judged_time (λ b. b.optimized) l at) i, sum_more (judged_time (λ b. b.added) l at) i, sum_more (units_time l at) i)
-
-  pub taken_more : (r : Verdict) (S S' : List ℕ) → r ≡ ground_at l at i → r ≡ Accepted → S ≡ sums_to l at i → S' ≡ grown S (time_at l i) (effective_judged l i) (at i) → Taken l at i Accepted S'
-  taken_more r S S' a e es e' = record { answer = sym e ∙ a; summed = λ f. e' ∙ ap (λ (Z : List ℕ). grown Z (time_at l i) (effective_judged l i) (at i)) es ∙ sums-more }
-
--- ---- all of them, one by one
-
--- the first i were tested, passed and added
-pub record TakenTo (l : Log) (at : ℕ → Benchmark) (n i : ℕ) (S : List ℕ) : Type 0 where
-  pub within : i ≤ n
-  pub fine : first_of (ground_at l at) i ≡ Accepted
-  pub summed : S ≡ sums_to l at i
-
-module _ (l : Log) (at : ℕ → Benchmark) (n : ℕ) where
-  pub taken_none : (S : List ℕ) → S ≡ sums_to l at 0 → TakenTo l at n 0 S
-  taken_none S e = record { within = omega arith; fine = first_none (ground_at l at); summed = e }
-
-  pub taken_step : (i : ℕ) (S S' : List ℕ) → i < n → TakenTo l at n i S → (v : Verdict) → Taken l at i v S' → v ≡ Accepted → TakenTo l at n (i + 1) S'
-  taken_step i S S' h t v o e = record { within = omega arith; fine = first_more (ground_at l at) i t.fine (sym o.answer ∙ e); summed = o.summed e }
-
-  module _ (whole : standards_in l ≡ n) where
-    pub taken_stop : (i : ℕ) (S S' : List ℕ) → i < n → TakenTo l at n i S → (v : Verdict) → Taken l at i v S' → (x : Refusal) → v ≡ Refused x → AllTaken l at v S'
-    taken_stop i S S' h t v o x e =
-        record {
-          answer = e ∙ sym (rw whole (first_stop (ground_at l at) n i x h t.fine (sym o.answer ∙ e)));
-          summed = λ f. absurd (refused-not (sym e ∙ f));
-        }
-
-    pub taken_all : (i : ℕ) (S : List ℕ) → n ≤ i → TakenTo l at n i S → AllTaken l at Accepted S
-    taken_all i S h t =
-        let q : i ≡ n = omega (arith, t.within) in
-        record { answer = rw whole (sym (rw q at t.fine)); summed = λ e. rw whole (rw q at t.summed) }

@@ -4,8 +4,9 @@
 use Rattle.std.specs.Prelude.{ℕ, ◌+◌, ◌*◌, List, map, Bool, ◌||◌, not, ltb, eqb, length, get_or}
 use Rattle.bits.specs.Bits.{field}
 use Rattle.records.specs.Log.{Log, decode}
-use Rattle.rules.specs.declared.Verdict.{Verdict}
-use Rattle.rules.specs.Names.{of_benchmarks}
+use Rattle.rules.specs.declared.Ground.TheVariants.{Length, Spare, NoTime, AboveStandard, OverCounted}
+use Rattle.rules.specs.declared.LogList.TheVariants.{Benchmarks}
+use Rattle.rules.specs.Grounds.{Verdict}
 use Rattle.rules.specs.Grounds.{ground, ◌then◌, first_of}
 use Rattle.rules.specs.Theoretical.{units_judged}
 use Rattle.rules.specs.Quantities.{sum_below}
@@ -56,10 +57,10 @@ any_above time b = ltb time b.reference || (ltb time b.optimized || ltb time b.a
 -- benchmark i, b, of a standard of this time that judges so many effective units
 unfoldable pub benchmark_ground : ℕ → ℕ → ℕ → Benchmark → Verdict
 benchmark_ground i time judged b =
-    ground 6 of_benchmarks i (not (eqb b.spare 0))
-    then ground 12 of_benchmarks i (any_zero b)
-    then ground 20 of_benchmarks i (any_above time b)
-    then ground 21 of_benchmarks i (ltb judged b.units)
+    ground Spare Benchmarks i (not (eqb b.spare 0))
+    then ground NoTime Benchmarks i (any_zero b)
+    then ground AboveStandard Benchmarks i (any_above time b)
+    then ground OverCounted Benchmarks i (ltb judged b.units)
 
 abbrev pub ground_at : Log → (ℕ → Benchmark) → ℕ → Verdict
 ground_at l at i = benchmark_ground i (time_at l i) (effective_judged l i) (at i)
@@ -67,7 +68,7 @@ ground_at l at i = benchmark_ground i (time_at l i) (effective_judged l i) (at i
 -- the length, which is that of as many benchmarks as there are standards; then the benchmarks one by one
 unfoldable pub benchmark_grounds : Log → List ℕ → Verdict
 unfolding benchmark_ground first_of
-benchmark_grounds l b = ground 5 of_benchmarks 0 (not (eqb (length b) (14 * standards_in l))) then first_of (ground_at l (benchmark_at b)) (standards_in l)
+benchmark_grounds l b = ground Length Benchmarks 0 (not (eqb (length b) (14 * standards_in l))) then first_of (ground_at l (benchmark_at b)) (standards_in l)
 
 -- acceptance of a log and its benchmarks, or the first ground met: the log is tested first
 unfoldable pub verdict_with : List ℕ → List ℕ → Verdict

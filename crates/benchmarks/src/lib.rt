@@ -5,15 +5,17 @@ ghost use Rattle.std.specs.Prelude.{◌≡◌, List, ℕ, ◌+◌, ◌*◌, ◌^
 ghost use Rattle.bits.specs.Bits.{field};
 ghost use Rattle.records.specs.Log.{decode};
 ghost use Rattle.records.specs.Covers.{Covers};
-ghost use Rattle.benchmarks.specs.Benchmarks.{benchmark_from, benchmark_at, any_zero, any_above, benchmark_ground};
-ghost use Rattle.benchmarks.specs.Taking.{sums_to, grown, Narrow, Below, Lent, Taken, AllTaken};
+ghost use Rattle.rules.specs.Answers.{answer_of};
+ghost use Rattle.rules.specs.Grounds.{first_of};
+ghost use Rattle.benchmarks.specs.Benchmarks.{benchmark_from, benchmark_at, standards_in, any_zero, any_above, benchmark_ground, ground_at};
+ghost use Rattle.benchmarks.specs.Taking.{sums_to, grown, Narrow, Below, Lent};
 
-use records::Header;
-use rules::{Refusal, Verdict};
+use records::StandardRecords;
+use rules::{Ground, LogList, Refusal};
 
 // What a standard is measured by: the ms that a unit takes on the fastest tool of the kind, by the optimized recipe, and in the steps that add value; and the total
 // effective units, from which scrap and rework of other tools are taken off too.
-#[derive(Clone, Copy)]
+#[derive(Clone, Copy, PartialEq, Eq)]
 pub struct Benchmark {
     pub reference: u64,
     pub optimized: u64,
@@ -45,49 +47,42 @@ fn benchmark_within(benchmarks: &[u8], i: usize) -> Benchmark
     benchmark_in(first, second)
 }
 
-fn any_zero(b: Benchmark) -> bool
-    ensures { result ≡ any_zero b }
-{
-    b.reference == 0 || (b.optimized == 0 || b.added == 0)
-}
+impl Benchmark {
+    fn any_zero(self) -> bool
+        ensures { result ≡ any_zero self }
+    {
+        self.reference == 0 || (self.optimized == 0 || self.added == 0)
+    }
 
-fn any_above(time: u64, b: Benchmark) -> bool
-    ensures { result ≡ any_above time b }
-{
-    time < b.reference || (time < b.optimized || time < b.added)
-}
-
-// A refusal of benchmark i.
-fn refused(number: usize, i: usize) -> Verdict
-    ensures { result ≡ Verdict.Refused (record { number = number; list = 4; place = i }) }
-{
-    Verdict::Refused(Refusal {
-        number,
-        list: 4,
-        place: i,
-    })
+    fn any_above(self, time: u64) -> bool
+        ensures { result ≡ any_above time self }
+    {
+        time < self.reference || (time < self.optimized || time < self.added)
+    }
 }
 
 // Benchmark i tested for 6, 12, 20 and 21. Its standard has this time and judges so many effective units.
-fn test_benchmark(i: usize, time: u64, judged: u64, b: Benchmark) -> Verdict
+#[tactic(auto, unfolding(crate::specs::Benchmarks::benchmark_ground))]
+fn test_benchmark(i: usize, time: u64, judged: u64, b: Benchmark) -> Result<(), Refusal>
     ensures { result ≡ benchmark_ground i time judged b }
 {
-    if b.spare != 0 {
-        return refused(6, i);
-    }
-    if any_zero(b) {
-        return refused(12, i);
-    }
-    if any_above(time, b) {
-        return refused(20, i);
-    }
-    if judged < b.units {
-        return refused(21, i);
-    }
-    Verdict::Accepted
+    Ground::Spare.refuses(b.spare != 0, LogList::Benchmarks, i)?;
+    Ground::NoTime.refuses(b.any_zero(), LogList::Benchmarks, i)?;
+    Ground::AboveStandard.refuses(b.any_above(time), LogList::Benchmarks, i)?;
+    Ground::OverCounted.refuses(judged < b.units, LogList::Benchmarks, i)
+}
+
+// The four sums: reference, optimized, value-added, and total effective units.
+#[derive(Clone, Copy, PartialEq, Eq, Default)]
+pub struct Sums {
+    pub reference: u64,
+    pub optimized: u64,
+    pub added: u64,
+    pub units: u64,
 }
 
 // A sum grown by the time of so many units.
+#[tactic(auto, using(crate::proofs::Taking::grow_fits))]
 fn grow(sum: u64, units: u64, time: u64) -> u64
     requires { (sum < 2 ^ 63) × (units < 2 ^ 27) × (time < 2 ^ 27) }
     ensures { result ≡ sum + units * time }
@@ -95,60 +90,37 @@ fn grow(sum: u64, units: u64, time: u64) -> u64
     sum + units * time
 }
 
-// The four sums grow by a benchmark.
-fn add_benchmark(sums: &mut [u64; 4], time: u64, judged: u64, b: Benchmark)
-    requires { (time < 2 ^ 27) × (judged < 2 ^ 27) × Narrow b × Below (2 ^ 63) sums.old }
-    ensures { sums.new ≡ grown sums.old time judged b }
-{
-    *sums = [
-        grow(sums[0], judged, b.reference),
-        grow(sums[1], judged, b.optimized),
-        grow(sums[2], judged, b.added),
-        grow(sums[3], b.units, time),
-    ];
-}
-
-// Benchmark i tested, and added where it passes.
-fn take_benchmark(
-    log: &[u8],
-    h: Header,
-    benchmarks: &[u8],
-    judged: &[u64; 512],
-    i: usize,
-    sums: &mut [u64; 4],
-) -> Verdict
-    requires lent { Lent log.now h benchmarks.now judged.now }
-    requires i_lt_standards { (i < h.standards) × (sums.old ≡ sums_to (decode log.now) (benchmark_at benchmarks.now) i) }
-    ensures { Taken (decode log.now) (benchmark_at benchmarks.now) i result sums.new }
-{
-    let s = records::standard_within(log, h, i);
-    let b = benchmark_within(benchmarks, i);
-    let verdict = test_benchmark(i, s.theoretical, judged[i], b);
-    if let Verdict::Refused(_) = verdict {
-        return verdict;
-    }
-    add_benchmark(sums, s.theoretical, judged[i], b);
-    Verdict::Accepted
-}
-
-// All benchmarks, one by one, up to the first that is refused: the verdict on them, and where it accepts their four sums.
-pub fn sum_benchmarks(
-    log: &[u8],
-    h: Header,
-    benchmarks: &[u8],
-    judged: &[u64; 512],
-    sums: &mut [u64; 4],
-) -> Verdict
-    requires lent { Lent log.now h benchmarks.now judged.now }
-    requires sums_value { sums.old ≡ sums_to (decode log.now) (benchmark_at benchmarks.now) 0 }
-    ensures { AllTaken (decode log.now) (benchmark_at benchmarks.now) result sums.new }
-{
-    let n = h.standards;
-    for i in 0..n {
-        let verdict = take_benchmark(log, h, benchmarks, judged, i, sums);
-        if let Verdict::Refused(_) = verdict {
-            return verdict;
+impl Sums {
+    // The four grown by a benchmark, of a standard of this time that judges so many effective units.
+    fn grown(self, time: u64, judged: u64, b: Benchmark) -> Sums
+        requires { (time < 2 ^ 27) × (judged < 2 ^ 27) × Narrow b × Below (2 ^ 63) self }
+        ensures { result ≡ grown self time judged b }
+    {
+        Sums {
+            reference: grow(self.reference, judged, b.reference),
+            optimized: grow(self.optimized, judged, b.optimized),
+            added: grow(self.added, judged, b.added),
+            units: grow(self.units, b.units, time),
         }
     }
-    Verdict::Accepted
+}
+
+// All benchmarks, one by one, up to the first that is refused: their four sums, or its refusal.
+pub fn sum_benchmarks(
+    log: StandardRecords<'_>,
+    benchmarks: &[u8],
+    judged: &[u64; 512],
+) -> Result<Sums, Refusal>
+    requires lent { Lent log.bytes.now log.header benchmarks.now judged.now }
+    ensures { result ≡ answer_of (first_of (ground_at (decode log.entry.bytes.now) (benchmark_at benchmarks.now)) (standards_in (decode log.entry.bytes.now))) (sums_to (decode log.entry.bytes.now) (benchmark_at benchmarks.now) (standards_in (decode log.entry.bytes.now))) }
+{
+    let mut sums = Sums::default();
+    // By index: records are cut out of bytes, and a refusal names it.
+    for i in 0..log.header.standards {
+        let s = log.record(i);
+        let b = benchmark_within(benchmarks, i);
+        test_benchmark(i, s.theoretical, judged[i], b)?;
+        sums = sums.grown(s.theoretical, judged[i], b);
+    }
+    Ok(sums)
 }

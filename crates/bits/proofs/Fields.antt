@@ -2,7 +2,7 @@
 -- gives the field, by a quotient and a remainder.
 -- Assumes nothing.
 use mathlib.Core.Path.{◌≡◌, refl, sym, ap, ◌∙◌}
-use mathlib.Core.List.{List, [], ◌∷◌}
+use mathlib.Core.List.{List}
 use Prim.Native.Nat.{ℕ, zero, suc, ◌+◌, ◌-◌, ◌*◌, ◌/◌, ◌%◌, ◌^◌, ◌≤◌, ◌<◌}
 use native.Mathlib.Nat.{add-zero, zero-add, add_assoc, suc-add, mod-eq_of_lt, pow-suc, mul_assoc, mul_comm, one-mul, add-mul, lt_of_lt_of_le}
 use native.Mathlib.Numerals.{add-one, one-add}
@@ -13,7 +13,7 @@ use lib.Arith.{digits_lt}
 use lib.Bits.{bit_and, and_mask}
 use lib.Pow.{pow-lt, pow_mono, pow-add, mod-pow-add, shr-shr, high, low}
 use Rattle.bits.specs.Bits.{bit, field}
-use Rattle.bits.specs.Words.{part_of, swapped_of}
+use Rattle.bits.specs.Words.{part_of}
 use Rattle.bits.specs.Put.{number}
 
 pub bit-lt : (s : List ℕ) (i : ℕ) → bit s i < 2
@@ -140,86 +140,6 @@ bytes-field s h q (suc n) = rw (← add-one n, more s q n (h (q + n)), bytes-fie
 pub word : (s : List ℕ) → ((k : ℕ) → get_or s k 0 < 256) → (q : ℕ)
     → ((((((get_or s q 0 * 256 + get_or s (q + 1) 0) * 256 + get_or s (q + 2) 0) * 256 + get_or s (q + 3) 0) * 256 + get_or s (q + 4) 0) * 256 + get_or s (q + 5) 0) * 256 + get_or s (q + 6) 0) * 256 + get_or s (q + 7) 0 ≡ field s (8 * q) 64
 word s h q = rw (bytes-field s h q 8, zero-add, add-zero)
-
--- a digit below 256 with u above it and l below
-digit_at : (k n l x u : ℕ) → n ≡ (u * 256 + x) * 2 ^ k + l → l < 2 ^ k → x < 256 → n / 2 ^ k % 256 ≡ x
-digit_at k n l x u e h b = rw (e, high (u * 256 + x) k h) (omega arith)
-
--- eight digits, the first the least significant
-module _ (a b c d e f g h : ℕ) (la : a < 256) (lb : b < 256) (lc : c < 256) (ld : d < 256) (le : e < 256) (lf : f < 256) (lg : g < 256) (lh : h < 256) where
-  abbrev n : ℕ
-  n = a + b * 2 ^ 8 + c * 2 ^ 16 + d * 2 ^ 24 + e * 2 ^ 32 + f * 2 ^ 40 + g * 2 ^ 48 + h * 2 ^ 56
-
-  digits : (i : ℕ) → i < 8 → n / 2 ^ (8 * i) % 256 ≡ get_or (a ∷ b ∷ c ∷ d ∷ e ∷ f ∷ g ∷ h ∷ []) i 0
-  digits i l =
-      let l1 : ℕ = a in
-      let l2 : ℕ = l1 + b * 2 ^ 8 in
-      let l3 : ℕ = l2 + c * 2 ^ 16 in
-      let l4 : ℕ = l3 + d * 2 ^ 24 in
-      let l5 : ℕ = l4 + e * 2 ^ 32 in
-      let l6 : ℕ = l5 + f * 2 ^ 40 in
-      let l7 : ℕ = l6 + g * 2 ^ 48 in
-      let u6 : ℕ = h * 256 + g in
-      let u5 : ℕ = u6 * 256 + f in
-      let u4 : ℕ = u5 * 256 + e in
-      let u3 : ℕ = u4 * 256 + d in
-      let u2 : ℕ = u3 * 256 + c in
-      let e0 : n / 1 % 256 ≡ a = omega arith in
-      let e1 : n / 2 ^ 8 % 256 ≡ b = digit_at 8 n l1 b u2 (omega arith) (omega arith) lb in
-      let e2 : n / 2 ^ 16 % 256 ≡ c = digit_at 16 n l2 c u3 (omega arith) (omega arith) lc in
-      let e3 : n / 2 ^ 24 % 256 ≡ d = digit_at 24 n l3 d u4 (omega arith) (omega arith) ld in
-      let e4 : n / 2 ^ 32 % 256 ≡ e = digit_at 32 n l4 e u5 (omega arith) (omega arith) le in
-      let e5 : n / 2 ^ 40 % 256 ≡ f = digit_at 40 n l5 f u6 (omega arith) (omega arith) lf in
-      let e6 : n / 2 ^ 48 % 256 ≡ g = digit_at 48 n l6 g h (omega arith) (omega arith) lg in
-      let e7 : n / 2 ^ 56 % 256 ≡ h = digit_at 56 n l7 h 0 (omega arith) (omega arith) lh in
-      go e0 e1 e2 e3 e4 e5 e6 e7 i l
-    where
-      go : n / 1 % 256 ≡ a → n / 2 ^ 8 % 256 ≡ b → n / 2 ^ 16 % 256 ≡ c → n / 2 ^ 24 % 256 ≡ d → n / 2 ^ 32 % 256 ≡ e → n / 2 ^ 40 % 256 ≡ f → n / 2 ^ 48 % 256 ≡ g → n / 2 ^ 56 % 256 ≡ h
-          → (i : ℕ) → i < 8 → n / 2 ^ (8 * i) % 256 ≡ get_or (a ∷ b ∷ c ∷ d ∷ e ∷ f ∷ g ∷ h ∷ []) i 0
-      go e0 e1 e2 e3 e4 e5 e6 e7 zero l = e0
-      go e0 e1 e2 e3 e4 e5 e6 e7 (suc zero) l = e1
-      go e0 e1 e2 e3 e4 e5 e6 e7 (suc (suc zero)) l = e2
-      go e0 e1 e2 e3 e4 e5 e6 e7 (suc (suc (suc zero))) l = e3
-      go e0 e1 e2 e3 e4 e5 e6 e7 (suc (suc (suc (suc zero)))) l = e4
-      go e0 e1 e2 e3 e4 e5 e6 e7 (suc (suc (suc (suc (suc zero))))) l = e5
-      go e0 e1 e2 e3 e4 e5 e6 e7 (suc (suc (suc (suc (suc (suc zero)))))) l = e6
-      go e0 e1 e2 e3 e4 e5 e6 e7 (suc (suc (suc (suc (suc (suc (suc zero))))))) l = e7
-      go e0 e1 e2 e3 e4 e5 e6 e7 (suc (suc (suc (suc (suc (suc (suc (suc i)))))))) l = absurd (omega arith)
-
-  swapped-digits : swapped_of n ≡ ((((((a * 256 + b) * 256 + c) * 256 + d) * 256 + e) * 256 + f) * 256 + g) * 256 + h
-  swapped-digits =
-      let at = digits in
-      let e0 : n % 256 ≡ a = omega arith in
-      rw (e0, at 1 (omega arith), at 2 (omega arith), at 3 (omega arith), at 4 (omega arith), at 5 (omega arith), at 6 (omega arith), at 7 (omega arith)) (omega arith)
-
--- eight bytes, the first the least significant, in the opposite sequence
-pub swapped-word : (s : List ℕ) → ((k : ℕ) → get_or s k 0 < 256) → (q : ℕ)
-    → swapped_of (get_or s q 0 + get_or s (q + 1) 0 * 2 ^ 8 + get_or s (q + 2) 0 * 2 ^ 16 + get_or s (q + 3) 0 * 2 ^ 24 + get_or s (q + 4) 0 * 2 ^ 32 + get_or s (q + 5) 0 * 2 ^ 40
-    + get_or s (q + 6) 0 * 2 ^ 48 + get_or s (q + 7) 0 * 2 ^ 56) ≡ field s (8 * q) 64
-swapped-word s h q =
-    swapped-digits _ _ _ _ _ _ _ _ (h q) (h (q + 1)) (h (q + 2)) (h (q + 3)) (h (q + 4)) (h (q + 5)) (h (q + 6)) (h (q + 7)) ∙ word s h q
-
--- byte i of a number in the opposite sequence is its byte 7 - i
-pub swapped-byte : (n i : ℕ) → i < 8 → swapped_of n / 2 ^ (8 * i) % 256 ≡ n / 2 ^ (8 * (7 - i)) % 256
-swapped-byte n i l =
-    let d : ℕ → ℕ = λ k. n / 2 ^ (8 * k) % 256 in
-    let h : (k : ℕ) → d k < 256 = λ k. omega arith in
-    let e : swapped_of n ≡ d 7 + d 6 * 2 ^ 8 + d 5 * 2 ^ 16 + d 4 * 2 ^ 24 + d 3 * 2 ^ 32 + d 2 * 2 ^ 40 + d 1 * 2 ^ 48 + d 0 * 2 ^ 56 = omega arith in
-    ap (λ (x : ℕ). x / 2 ^ (8 * i) % 256) e ∙ digits (d 7) (d 6) (d 5) (d 4) (d 3) (d 2) (d 1) (d 0) (h 7) (h 6) (h 5) (h 4) (h 3) (h 2) (h 1) (h 0) i l ∙ nth i l
-  where
-    byte : ℕ → ℕ
-    byte k = n / 2 ^ (8 * k) % 256
-
-    nth : (i : ℕ) → i < 8 → get_or (byte 7 ∷ byte 6 ∷ byte 5 ∷ byte 4 ∷ byte 3 ∷ byte 2 ∷ byte 1 ∷ byte 0 ∷ []) i 0 ≡ byte (7 - i)
-    nth zero l = refl
-    nth (suc zero) l = refl
-    nth (suc (suc zero)) l = refl
-    nth (suc (suc (suc zero))) l = refl
-    nth (suc (suc (suc (suc zero)))) l = refl
-    nth (suc (suc (suc (suc (suc zero))))) l = refl
-    nth (suc (suc (suc (suc (suc (suc zero)))))) l = refl
-    nth (suc (suc (suc (suc (suc (suc (suc zero))))))) l = refl
-    nth (suc (suc (suc (suc (suc (suc (suc (suc i)))))))) l = absurd (omega arith)
 
 -- bytes past the end are a field of 0
 pub past-zero : (s : List ℕ) (q n : ℕ) → length s ≤ q → field s (8 * q) (8 * n) ≡ 0

@@ -1,4 +1,1 @@
-pub mod TextLines
-pub mod OnCard
-pub mod Whereabouts
 pub mod Refusals

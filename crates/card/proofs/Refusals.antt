@@ -8,13 +8,17 @@ use lib.Dec.{T, ltb, eqb}
 use lib.ListN.{length}
 use Rattle.rules.specs.declared.Refusal.{Refusal}
 use Rattle.rules.specs.Refusals.{Row, is_row, Known, log_refusals, call_refusals, benchmark_refusals}
-use Rattle.card.proofs.TextLines.{both}
+use Rattle.rules.specs.Names.{number_of, list_number}
 use Rattle.card.specs.Card.{card, field, word, meaning, look_for, on_card}
 
 -- the card has the number, and says something of it in each field
 unfoldable pub worded : ℕ → Bool
 unfolding field
 worded n = on_card n && (ltb 0 (length (word n)) && (ltb 0 (length (meaning n)) && ltb 0 (length (look_for n))))
+
+both : (b c : Bool) → T (b && c) → T b × T c
+both true c h = (tt, h)
+both false c h = absurd h
 
 all_worded : List Row → Bool
 all_worded [] = true
@@ -29,14 +33,14 @@ row-worded (r ∷ rs) n l h k = go (eqb n r.number) refl k (λ j. row-worded rs 
     go true e k more = rw (eqb-true n r.number e) (both (worded r.number) (all_worded rs) h).0
     go false e k more = more k
 
-pub refusals-worded : (x : Refusal) → Known log_refusals x → T (worded x.number)
+pub refusals-worded : (x : Refusal) → Known log_refusals x → T (worded (number_of x.ground))
 unfolding all_worded worded field card
-refusals-worded x k = row-worded log_refusals x.number x.list tt k
+refusals-worded x k = row-worded log_refusals (number_of x.ground) (list_number x.list) tt k
 
-pub call_refusals-worded : (x : Refusal) → Known call_refusals x → T (worded x.number)
+pub call_refusals-worded : (x : Refusal) → Known call_refusals x → T (worded (number_of x.ground))
 unfolding all_worded worded field card
-call_refusals-worded x k = row-worded call_refusals x.number x.list tt k
+call_refusals-worded x k = row-worded call_refusals (number_of x.ground) (list_number x.list) tt k
 
-pub benchmark_refusals-worded : (x : Refusal) → Known benchmark_refusals x → T (worded x.number)
+pub benchmark_refusals-worded : (x : Refusal) → Known benchmark_refusals x → T (worded (number_of x.ground))
 unfolding all_worded worded field card
-benchmark_refusals-worded x k = row-worded benchmark_refusals x.number x.list tt k
+benchmark_refusals-worded x k = row-worded benchmark_refusals (number_of x.ground) (list_number x.list) tt k

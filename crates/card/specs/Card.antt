@@ -1,8 +1,12 @@
 -- The refusal card, and the words for a refusal. Definitions only.
-use Rattle.std.specs.Prelude.{Bool, ◌&&◌, ◌||◌, cond, List, [], ◌∷◌, ◌++◌, ℕ, ◌+◌, ◌*◌, eqb, leb, get_or}
+use Rattle.std.specs.Prelude.{◌≡◌, Bool, true, false, ◌&&◌, cond, List, [], ◌∷◌, ◌++◌, ℕ, ◌+◌, ◌*◌, ◌≤◌, leb, length, get_or}
 use Prim.Native.String.{String}
+use Rattle.rules.specs.declared.Ground.{Ground}
+use Rattle.rules.specs.declared.Ground.TheVariants.{Length, StrayModule, NoOpening, TooFast, TooWide}
+use Rattle.rules.specs.declared.LogList.{LogList}
+use Rattle.rules.specs.declared.LogList.TheVariants.{NoList, States, Standards, Units, Benchmarks}
 use Rattle.rules.specs.declared.Refusal.{Refusal}
-use Rattle.rules.specs.Names.{no_list, of_states, of_standards, of_units, of_benchmarks}
+use Rattle.rules.specs.Names.{number_of}
 use Rattle.report.specs.Text.{ascii}
 use Rattle.report.specs.Report.{decimal}
 
@@ -51,6 +55,15 @@ meaning n = field n 1
 abbrev pub look_for : ℕ → List ℕ
 look_for n = field n 2
 
+-- the three fields of a number, each of at most 96 bytes
+pub record OnCard (n : ℕ) (w m l : List ℕ) : Type 0 where
+  pub its_word : w ≡ word n
+  pub its_meaning : m ≡ meaning n
+  pub its_look_for : l ≡ look_for n
+  pub short_word : length w ≤ 96
+  pub short_meaning : length m ≤ 96
+  pub short_look_for : length l ≤ 96
+
 -- ---- the row of a number
 
 -- 1 to 22
@@ -70,38 +83,43 @@ explained n = cond (on_card n) (row_text n) []
 
 -- ---- a refusal in words
 
--- a place of no list that is a module: in 11, 16, and 7 for a module that was asked for
-abbrev pub is_module : Refusal → Bool
-is_module x = eqb x.list no_list && (eqb x.number 7 || (eqb x.number 11 || eqb x.number 16))
-
 -- a number between two texts
 abbrev pub around : String → ℕ → String → List ℕ
 around before n behind = (ascii before ++ decimal n) ++ ascii behind
 
 -- the kind of record that has a value too wide
-unfoldable pub kind : ℕ → List ℕ
-kind list =
-    cond (eqb list of_states) (ascii " (a state record)")
-    (cond (eqb list of_standards) (ascii " (a standard)")
-    (cond (eqb list of_units) (ascii " (a unit record)") (ascii " (a header)")))
+abbrev pub kind : LogList → List ℕ
+kind States = ascii " (a state record)"
+kind Standards = ascii " (a standard)"
+kind Units = ascii " (a unit record)"
+kind NoList = ascii " (a header)"
+kind Benchmarks = ascii " (a header)"
 
 -- the benchmark, or in 5 all of them
-unfoldable pub which_benchmark : Refusal → List ℕ
-unfolding decimal
-which_benchmark x = cond (eqb x.number 5) (ascii " (the benchmarks)") (around " (benchmark " x.place ")")
+abbrev pub which_benchmark : Ground → ℕ → List ℕ
+which_benchmark Length place = ascii " (the benchmarks)"
+which_benchmark g place = around " (benchmark " place ")"
+
+-- a place of no list is a module in 11, 16, and 7 for a module that was asked for
+abbrev pub is_module : Ground → Bool
+is_module StrayModule = true
+is_module NoOpening = true
+is_module TooFast = true
+is_module g = false
 
 -- where: the kind of record in 22, the record and its list, the benchmark, or the module
-unfoldable pub whereabouts : Refusal → List ℕ
-unfolding decimal kind which_benchmark
-whereabouts x =
-    cond (eqb x.number 22) (kind x.list)
-    (cond (eqb x.list of_states) (around " (record " x.place " of the states)")
-    (cond (eqb x.list of_standards) (around " (record " x.place " of the standards)")
-    (cond (eqb x.list of_units) (around " (record " x.place " of the units)")
-    (cond (eqb x.list of_benchmarks) (which_benchmark x)
-    (cond (is_module x) (around " (module " x.place ")") [])))))
+abbrev pub place_of : Ground → LogList → ℕ → List ℕ
+place_of TooWide list place = kind list
+place_of g States place = around " (record " place " of the states)"
+place_of g Standards place = around " (record " place " of the standards)"
+place_of g Units place = around " (record " place " of the units)"
+place_of g Benchmarks place = which_benchmark g place
+place_of g NoList place = cond (is_module g) (around " (module " place ")") []
+
+abbrev pub whereabouts : Refusal → List ℕ
+whereabouts x = place_of x.ground x.list x.place
 
 -- one line: the trade word, the ground and where
 unfoldable pub words_of : Refusal → List ℕ
-unfolding field whereabouts
-words_of x = word x.number ++ (ascii ": " ++ meaning x.number) ++ whereabouts x ++ ascii "\n"
+unfolding field
+words_of x = word (number_of x.ground) ++ (ascii ": " ++ meaning (number_of x.ground)) ++ whereabouts x ++ ascii "\n"

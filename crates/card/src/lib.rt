@@ -1,143 +1,215 @@
-// The refusal card: what each refusal means and what to look for, and a refusal in words.
+// The refusal card: what each refusal means and what to look for, and a refusal in words. A buffer and a place: see `filling`.
 #![tactic(auto)]
 
-ghost use Rattle.std.specs.Prelude.{◌≡◌, [], ◌++◌, ◌+◌, ◌≤◌, ◌<◌, length, drop, get_or};
+ghost use Rattle.std.specs.Prelude.{◌≡◌, [], ◌++◌, ◌+◌, ◌≤◌, length, false, MatchOption};
 ghost use Rattle.filling.specs.Buffer.{Put, AtFront};
 ghost use Rattle.report.specs.Report.{decimal};
-ghost use Rattle.card.specs.Card.{card, field, on_card, row_text, explained, is_module, kind, which_benchmark, whereabouts, words_of};
-ghost use Rattle.card.specs.Fields.{index_of, first_line, behind_line, behind_lines};
+ghost use Rattle.rules.specs.Names.{number_of};
+ghost use Rattle.card.specs.Card.{OnCard, on_card, row_text, explained, is_module, kind, whereabouts, words_of};
 
-use rules::Refusal;
+use rules::{Ground, LogList, Refusal};
 
-// How many bytes of a text stand before its first line end, all of them where it has none.
-fn line_length(text: &[u8]) -> usize
-    ensures upper_bound { result ≤ length text.now }
-    ensures text_value { result ≡ index_of 10 text.now }
-{
-    text.iter().position(|b| *b == b'\n').unwrap_or(text.len())
+// What the card says of a ground.
+#[derive(Clone, Copy)]
+struct Row {
+    word: &'static [u8],
+    meaning: &'static [u8],
+    look_for: &'static [u8],
 }
 
-// Where the line behind the one at `at` begins, or the text's end.
-fn next_line(text: &[u8], at: usize) -> usize
-    requires { at ≤ length text.now }
-    ensures upper_bound { result ≤ length text.now }
-    ensures text_value { drop result text.now ≡ behind_line (drop at text.now) }
+// The card, ground by ground.
+#[tactic(auto, unfolding(crate::specs::Card::card, crate::specs::Card::field))]
+fn row_of(ground: Ground) -> Row
+    ensures { OnCard (number_of ground) result.word.now result.meaning.now result.look_for.now }
 {
-    let end = at + line_length(&text[at..]);
-    if end < text.len() { end + 1 } else { end }
-}
-
-// Where line k begins, or the text's end.
-fn line_start(text: &[u8], k: usize) -> usize
-    ensures upper_bound { result ≤ length text.now }
-    ensures text_value { drop result text.now ≡ behind_lines k text.now }
-{
-    let mut at = 0;
-    for _ in 0..k {
-        at = next_line(text, at);
+    match ground {
+        Ground::NoHeader => Row {
+            word: b"no header",
+            meaning: b"under 10 bytes",
+            look_for: b"an empty or broken transfer",
+        },
+        Ground::Period => Row {
+            word: b"period",
+            meaning: b"0 or over 366 days (31,622,400,000 ms)",
+            look_for: b"the start and end of the export",
+        },
+        Ground::Modules => Row {
+            word: b"modules",
+            meaning: b"0 or over 64",
+            look_for: b"the tool's configuration",
+        },
+        Ground::Counts => Row {
+            word: b"counts",
+            meaning: b"over 6,000 state records, 512 standards or 2,000 unit records",
+            look_for: b"an export over too long a time: cut it",
+        },
+        Ground::Length => Row {
+            word: b"length",
+            meaning: b"bytes other than 10 + 6 states + 10 standards + 11 units; benchmarks: 14 for each standard",
+            look_for: b"a transfer cut off, or bytes behind the log; benchmarks of another log",
+        },
+        Ground::Spare => Row {
+            word: b"spare",
+            meaning: b"a spare bit set",
+            look_for: b"another version of the format, or bytes out of step",
+        },
+        Ground::StrayModule => Row {
+            word: b"stray module",
+            meaning: b"module at or above the module count",
+            look_for: b"a module added after the header was set",
+        },
+        Ground::StrayCode => Row {
+            word: b"stray code",
+            meaning: b"sub-state code above 23",
+            look_for: b"codes of the controller's own that are not mapped",
+        },
+        Ground::Outside => Row {
+            word: b"outside",
+            meaning: b"time or start at or past the period",
+            look_for: b"a clock set during the period, or records of the next one",
+        },
+        Ground::Sequence => Row {
+            word: b"sequence",
+            meaning: b"time, then module, not above the record before, or not later than its own module's last",
+            look_for: b"a clock set back; a change logged twice; modules of one time out of sequence",
+        },
+        Ground::NoOpening => Row {
+            word: b"no opening",
+            meaning: b"a module whose first record is not at time 0, or that has none",
+            look_for: b"the module's state at the start of the period",
+        },
+        Ground::NoTime => Row {
+            word: b"no time",
+            meaning: b"theoretical time 0, or a time of a benchmark 0",
+            look_for: b"a recipe that was entered without its time",
+        },
+        Ground::Twice => Row {
+            word: b"twice",
+            meaning: b"module, recipe and start all equal to an earlier standard's",
+            look_for: b"a revision entered twice",
+        },
+        Ground::OverGood => Row {
+            word: b"over-good",
+            meaning: b"effective units above actual units",
+            look_for: b"good and made units exchanged; rework counted twice",
+        },
+        Ground::NoStandard => Row {
+            word: b"no standard",
+            meaning: b"none in force for a unit record",
+            look_for: b"a recipe that ran ahead of its first standard, or at a module that has none for it",
+        },
+        Ground::TooFast => Row {
+            word: b"too fast",
+            meaning: b"a module's actual theoretical time above its production time",
+            look_for: b"a standard that is too long, or productive time logged as something else",
+        },
+        Ground::TooGreat => Row {
+            word: b"too great",
+            meaning: b"a tool sum above 9,007,199,254,740,991 ms",
+            look_for: b"no log can reach it",
+        },
+        Ground::ShortBuffer => Row {
+            word: b"short buffer",
+            meaning: b"report longer than the buffer, or a record that does not fit at its position",
+            look_for: b"lend 2,494 bytes, which hold every report; 63,130 hold every log",
+        },
+        Ground::Unsorted => Row {
+            word: b"unsorted",
+            meaning: b"out of rising sequence: standards by module, recipe and start, units by time, module and recipe",
+            look_for: b"sort the list by these fields, ascending; merge unit records that agree in all three",
+        },
+        Ground::AboveStandard => Row {
+            word: b"above standard",
+            meaning: b"a time of a benchmark above its standard's theoretical time",
+            look_for: b"benchmarks out of the standards' sequence, or those of another revision",
+        },
+        Ground::OverCounted => Row {
+            word: b"over-counted",
+            meaning: b"total effective units of a benchmark above the effective units judged by its standard",
+            look_for: b"units of another period or revision; scrap or rework of this tool counted as good",
+        },
+        Ground::TooWide => Row {
+            word: b"too wide",
+            meaning: b"a value does not fit its field",
+            look_for: b"a value in another unit than ms, a number of the controller's own, or a count that ran on",
+        },
     }
-    at
 }
 
-// Copies line k of a text, without its end, into the buffer from `at` on. The caller owes the room.
-fn put_line(buf: &mut [u8], at: usize, text: &[u8], k: usize) -> usize
-    requires { at + length (first_line (behind_lines k text.now)) ≤ length buf.old }
-    ensures { Put (first_line (behind_lines k text.now)) buf.old at result buf.new }
+// The ground of a number, where the card has the number. By hand: a `TryFrom` would hold the same match, since an enum is not made of its number.
+fn ground_of(number: usize) -> Option<Ground>
+    ensures { MatchOption result (on_card number ≡ false) (λ g. number_of g ≡ number) }
 {
-    let from = line_start(text, k);
-    let end = from + line_length(&text[from..]);
-    filling::put_text(buf, at, &text[from..end])
-}
-
-// Line k of the card, of which every number from 0 to 22 has three: its word, its meaning and what to look for. The caller owes the room.
-fn put_card_line(buf: &mut [u8], at: usize, k: usize) -> usize
-    requires { at + 96 ≤ length buf.old }
-    ensures put { Put (get_or card k []) buf.old at result buf.new }
-    ensures upper_bound { result ≤ at + 96 }
-{
-    put_line(
-        buf,
-        at,
-        b"\
-        \n\n\n\
-        no header\nunder 10 bytes\nan empty or broken transfer\n\
-        period\n0 or over 366 days (31,622,400,000 ms)\nthe start and end of the export\n\
-        modules\n0 or over 64\nthe tool's configuration\n\
-        counts\nover 6,000 state records, 512 standards or 2,000 unit records\nan export over too long a time: cut it\n\
-        length\nbytes other than 10 + 6 states + 10 standards + 11 units; benchmarks: 14 for each standard\na transfer cut off, or bytes behind the log; benchmarks of another log\n\
-        spare\na spare bit set\nanother version of the format, or bytes out of step\n\
-        stray module\nmodule at or above the module count\na module added after the header was set\n\
-        stray code\nsub-state code above 23\ncodes of the controller's own that are not mapped\n\
-        outside\ntime or start at or past the period\na clock set during the period, or records of the next one\n\
-        sequence\ntime, then module, not above the record before, or not later than its own module's last\na clock set back; a change logged twice; modules of one time out of sequence\n\
-        no opening\na module whose first record is not at time 0, or that has none\nthe module's state at the start of the period\n\
-        no time\ntheoretical time 0, or a time of a benchmark 0\na recipe that was entered without its time\n\
-        twice\nmodule, recipe and start all equal to an earlier standard's\na revision entered twice\n\
-        over-good\neffective units above actual units\ngood and made units exchanged; rework counted twice\n\
-        no standard\nnone in force for a unit record\na recipe that ran ahead of its first standard, or at a module that has none for it\n\
-        too fast\na module's actual theoretical time above its production time\na standard that is too long, or productive time logged as something else\n\
-        too great\na tool sum above 9,007,199,254,740,991 ms\nno log can reach it\n\
-        short buffer\nreport longer than the buffer, or a record that does not fit at its position\nlend 2,494 bytes, which hold every report; 63,130 hold every log\n\
-        unsorted\nout of rising sequence: standards by module, recipe and start, units by time, module and recipe\nsort the list by these fields, ascending; merge unit records that agree in all three\n\
-        above standard\na time of a benchmark above its standard's theoretical time\nbenchmarks out of the standards' sequence, or those of another revision\n\
-        over-counted\ntotal effective units of a benchmark above the effective units judged by its standard\nunits of another period or revision; scrap or rework of this tool counted as good\n\
-        too wide\na value does not fit its field\na value in another unit than ms, a number of the controller's own, or a count that ran on\n\
-        ",
-        k,
-    )
-}
-
-// Field j of number n: 0 its word, 1 its meaning, 2 what to look for. Nothing where the card does not have the number. The caller owes the room.
-fn put_field(buf: &mut [u8], at: usize, n: usize, j: usize) -> usize
-    requires j_bound { j < 3 }
-    requires at_in_bounds { at + 96 ≤ length buf.old }
-    ensures put { Put (field n j) buf.old at result buf.new }
-    ensures upper_bound { result ≤ at + 96 }
-{
-    if 22 < n {
-        put_card_line(buf, at, 0)
-    } else {
-        put_card_line(buf, at, 3 * n + j)
+    match number {
+        1 => Some(Ground::NoHeader),
+        2 => Some(Ground::Period),
+        3 => Some(Ground::Modules),
+        4 => Some(Ground::Counts),
+        5 => Some(Ground::Length),
+        6 => Some(Ground::Spare),
+        7 => Some(Ground::StrayModule),
+        8 => Some(Ground::StrayCode),
+        9 => Some(Ground::Outside),
+        10 => Some(Ground::Sequence),
+        11 => Some(Ground::NoOpening),
+        12 => Some(Ground::NoTime),
+        13 => Some(Ground::Twice),
+        14 => Some(Ground::OverGood),
+        15 => Some(Ground::NoStandard),
+        16 => Some(Ground::TooFast),
+        17 => Some(Ground::TooGreat),
+        18 => Some(Ground::ShortBuffer),
+        19 => Some(Ground::Unsorted),
+        20 => Some(Ground::AboveStandard),
+        21 => Some(Ground::OverCounted),
+        22 => Some(Ground::TooWide),
+        _ => None,
     }
 }
 
-// A label and field j of number n behind it. The caller owes the room.
-fn put_named(buf: &mut [u8], at: usize, label: &[u8], n: usize, j: usize) -> usize
-    requires j_bound { j < 3 }
-    requires label_in_bounds { at + length label.now + 96 ≤ length buf.old }
-    ensures put { Put (label.now ++ field n j) buf.old at result buf.new }
-    ensures upper_bound { result ≤ at + length label.now + 96 }
+// Two texts, the second behind the first. The caller owes the room.
+fn put_two(buf: &mut [u8], at: usize, first: &[u8], second: &[u8]) -> usize
+    requires { at + length first.now + length second.now ≤ length buf.old }
+    ensures { Put (first.now ++ second.now) buf.old at result buf.new }
 {
-    let named = filling::put_text(buf, at, label);
-    put_field(buf, named, n, j)
+    let behind = filling::put_text(buf, at, first);
+    filling::put_text(buf, behind, second)
 }
 
-// The row of number n on the card: three lines. The caller owes the room.
-fn put_row(buf: &mut [u8], n: usize) -> usize
+// A ground's row on the card: three lines. The caller owes the room.
+fn put_row(buf: &mut [u8], ground: Ground) -> usize
     requires { 512 ≤ length buf.old }
-    ensures { AtFront (row_text n) 512 buf.old result buf.new }
+    ensures { AtFront (row_text (number_of ground)) 512 buf.old result buf.new }
 {
-    let number = report::put_labelled(buf, 0, b"refusal ", n);
-    let word = put_named(buf, number, b": ", n, 0);
-    let meaning = put_named(buf, word, b"\nmeaning: ", n, 1);
-    let look_for = put_named(buf, meaning, b"\nlook for: ", n, 2);
+    let row = row_of(ground);
+    let number = report::put_labelled(buf, 0, b"refusal ", ground.number());
+    let word = put_two(buf, number, b": ", row.word);
+    let meaning = put_two(buf, word, b"\nmeaning: ", row.meaning);
+    let look_for = put_two(buf, meaning, b"\nlook for: ", row.look_for);
     filling::put_text(buf, look_for, b"\n")
-}
-
-fn is_on_card(n: usize) -> bool
-    ensures { result ≡ on_card n }
-{
-    1 <= n && n <= 22
 }
 
 // Writes the row of number n to the front of the buffer and answers its length: 0, and no byte changed, where the card does not have the number.
 pub fn explain(n: usize, buf: &mut [u8; 512]) -> usize
     ensures { AtFront (explained n) 512 buf.old result buf.new }
 {
-    if is_on_card(n) {
-        return put_row(buf, n);
+    match ground_of(n) {
+        Some(ground) => put_row(buf, ground),
+        None => 0,
     }
-    0
+}
+
+// The kind of record that has a value too wide.
+fn kind(list: LogList) -> &'static [u8]
+    ensures text_value { result.now ≡ kind list }
+    ensures upper_bound { length result.now ≤ 50 }
+{
+    match list {
+        LogList::States => b" (a state record)",
+        LogList::Standards => b" (a standard)",
+        LogList::Units => b" (a unit record)",
+        LogList::NoList | LogList::Benchmarks => b" (a header)",
+    }
 }
 
 // A number between two texts. The caller owes the room.
@@ -150,76 +222,50 @@ fn put_around(buf: &mut [u8], at: usize, before: &[u8], n: usize, behind: &[u8])
     filling::put_text(buf, number, behind)
 }
 
-fn is_module(x: Refusal) -> bool
-    ensures { result ≡ is_module x }
+// Whether a place of no list is a module: in 11, 16, and 7 for a module that was asked for.
+fn is_module(ground: Ground) -> bool
+    ensures { result ≡ is_module ground }
 {
-    x.list == 0 && (x.number == 7 || (x.number == 11 || x.number == 16))
-}
-
-// The kind of record that has a value too wide. The caller owes the room.
-fn put_kind(buf: &mut [u8], at: usize, list: usize) -> usize
-    requires { at + 50 ≤ length buf.old }
-    ensures put { Put (kind list) buf.old at result buf.new }
-    ensures upper_bound { result ≤ at + 50 }
-{
-    if list == 1 {
-        return filling::put_text(buf, at, b" (a state record)");
-    }
-    if list == 2 {
-        return filling::put_text(buf, at, b" (a standard)");
-    }
-    if list == 3 {
-        return filling::put_text(buf, at, b" (a unit record)");
-    }
-    filling::put_text(buf, at, b" (a header)")
-}
-
-// The benchmark that a refusal of list 4 points to, or all of them. The caller owes the room.
-fn put_benchmark(buf: &mut [u8], at: usize, x: Refusal) -> usize
-    requires { at + 50 ≤ length buf.old }
-    ensures put { Put (which_benchmark x) buf.old at result buf.new }
-    ensures upper_bound { result ≤ at + 50 }
-{
-    if x.number == 5 {
-        return filling::put_text(buf, at, b" (the benchmarks)");
-    }
-    put_around(buf, at, b" (benchmark ", x.place, b")")
+    matches!(
+        ground,
+        Ground::StrayModule | Ground::NoOpening | Ground::TooFast
+    )
 }
 
 // Where a refusal points to: the kind of record, the record and its list, the benchmark, or the module. The caller owes the room.
-#[tactic(auto, using(crate::proofs::Whereabouts::of_kind))]
 fn put_whereabouts(buf: &mut [u8], at: usize, x: Refusal) -> usize
     requires { at + 50 ≤ length buf.old }
     ensures put { Put (whereabouts x) buf.old at result buf.new }
     ensures upper_bound { result ≤ at + 50 }
 {
-    if x.number == 22 {
-        return put_kind(buf, at, x.list);
+    if x.ground == Ground::TooWide {
+        return filling::put_text(buf, at, kind(x.list));
     }
-    if x.list == 1 {
-        return put_around(buf, at, b" (record ", x.place, b" of the states)");
+    let place = x.place;
+    match (x.list, x.ground) {
+        (LogList::States, _) => put_around(buf, at, b" (record ", place, b" of the states)"),
+        (LogList::Standards, _) => put_around(buf, at, b" (record ", place, b" of the standards)"),
+        (LogList::Units, _) => put_around(buf, at, b" (record ", place, b" of the units)"),
+        (LogList::Benchmarks, Ground::Length) => filling::put_text(buf, at, b" (the benchmarks)"),
+        (LogList::Benchmarks, _) => put_around(buf, at, b" (benchmark ", place, b")"),
+        (LogList::NoList, ground) if is_module(ground) => put_around(
+            buf,
+            at,
+            b" (module ",
+            place,
+            b")",
+        ),
+        (LogList::NoList, _) => at,
     }
-    if x.list == 2 {
-        return put_around(buf, at, b" (record ", x.place, b" of the standards)");
-    }
-    if x.list == 3 {
-        return put_around(buf, at, b" (record ", x.place, b" of the units)");
-    }
-    if x.list == 4 {
-        return put_benchmark(buf, at, x);
-    }
-    if is_module(x) {
-        return put_around(buf, at, b" (module ", x.place, b")");
-    }
-    at
 }
 
 // Writes a refusal in words to the front of the buffer and answers the line's length: the trade word, the ground and where.
 pub fn words_of(x: Refusal, buf: &mut [u8; 512]) -> usize
     ensures { AtFront (words_of x) 512 buf.old result buf.new }
 {
-    let word = put_field(buf, 0, x.number, 0);
-    let meaning = put_named(buf, word, b": ", x.number, 1);
+    let row = row_of(x.ground);
+    let word = filling::put_text(buf, 0, row.word);
+    let meaning = put_two(buf, word, b": ", row.meaning);
     let place = put_whereabouts(buf, meaning, x);
     filling::put_text(buf, place, b"\n")
 }

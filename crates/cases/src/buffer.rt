@@ -14,9 +14,8 @@ pub fn fill(space: &mut [u8])
     ensures space_len_unchanged { length space.new ≡ length space.old }
     ensures kept { Kept space.new 0 }
 {
-    let n = space.len();
-    for i in 0..n {
-        space[i] = pattern(i);
+    for (i, b) in space.iter_mut().enumerate() {
+        *b = pattern(i);
     }
 }
 
@@ -24,25 +23,12 @@ pub fn fill(space: &mut [u8])
 fn kept(space: &[u8], from: usize) -> bool
     ensures { (result ≡ true) ↔ Kept space.now from }
 {
-    let n = space.len();
-    for i in from..n {
-        if space[i] != pattern(i) {
-            return false;
-        }
-    }
-    true
+    (from..space.len()).all(|i| space[i] == pattern(i))
 }
 
 // Whether the buffer holds the text at its front and the pattern behind it.
 pub fn left(space: &[u8], text: &[u8]) -> bool
     ensures { (result ≡ true) ↔ Left text.now space.now }
 {
-    let n = text.len();
-    if space.len() < n {
-        return false;
-    }
-    if check::same(&space[..n], text) {
-        return kept(space, n);
-    }
-    false
+    space.starts_with(text) && kept(space, text.len())
 }

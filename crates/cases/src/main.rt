@@ -10,42 +10,38 @@
 //   log's, behind which its benchmarks stand), the length of the log and that of what is expected;
 // - the name, the log, and what is expected. Of 0, 7 and 8 that is a text: the report, or the line of the refusal, or nothing where `write_report`
 //   refuses. Of 1 to 6 and of 9 it is seven numbers of 8 bytes, as numbers.rt has them.
+// The kind stays the input's number, in two switches: an enum would be made of it by a third.
 #![tactic(auto)]
 
 mod buffer;
 mod numbers;
 mod texts;
 
-ghost use Rattle.std.specs.Prelude.{◌≡◌, min, true};
+ghost use Rattle.std.specs.Prelude.{◌≡◌, ◌≤◌, true};
 ghost use Rattle.cases.specs.Numbers.{Numbers};
 ghost use Rattle.cases.specs.Right.{measured_in, Right};
 
 use std::io;
-use std::num::wrapping_add_usize;
 
-fn least(a: usize, b: usize) -> usize
-    ensures { result ≡ min a b }
+// The first n bytes, or all of them where there are fewer, and those behind them.
+fn cut(data: &[u8], n: usize) -> (&[u8], &[u8]) {
+    data.split_at(n.min(data.len()))
+}
+
+// The number in the first n bytes, and the bytes behind it.
+fn number(data: &[u8], n: usize) -> (usize, &[u8])
+    requires { n ≤ 8 }
 {
-    if a < b { a } else { b }
-}
-
-// The bytes from `from` on, at most `size` of them.
-fn part(data: &[u8], from: usize, size: usize) -> &[u8] {
-    let rest = &data[least(from, data.len())..];
-    &rest[..least(size, rest.len())]
-}
-
-// The number in the first bits of the bytes from `at` on.
-fn number(data: &[u8], at: usize, width: usize) -> usize {
-    bits::read_field(part(data, at, 8), 0, width) as usize
+    let (bytes, rest) = cut(data, n);
+    (bits::read_field(bytes, 0, 8 * n) as usize, rest)
 }
 
 // Whether the first bytes are a log and the others benchmarks whose supplemental figures are the expected ones.
 fn measures(both: &[u8], size: usize, expected: &[u8]) -> bool
     ensures { result ≡ true → Numbers expected.now (measured_in both.now size) }
 {
-    let n = least(size, both.len());
-    numbers::measured_as_expected(&both[..n], &both[n..], expected)
+    let (log, benchmarks) = both.split_at(size.min(both.len()));
+    numbers::measured_as_expected(log, benchmarks, expected)
 }
 
 // Whether a case is answered as expected. Behind the part of a buffer that is lent stand 32 bytes more.
@@ -53,7 +49,7 @@ fn as_expected(kind: usize, log: &[u8], asked: usize, expected: &[u8]) -> bool
     ensures { result ≡ true → Right kind log.now asked expected.now }
 {
     let mut space = [0u8; 4128];
-    let room = least(asked, 4096);
+    let room = asked.min(4096);
     match kind {
         0 => texts::reports(log, &mut space[..room + 32], room, expected),
         1..=6 => numbers::as_expected(kind, log, asked, expected),
@@ -64,43 +60,28 @@ fn as_expected(kind: usize, log: &[u8], asked: usize, expected: &[u8]) -> bool
     }
 }
 
-fn tell(out: &impl Print, same: bool, name: &[u8]) -> io::Result<()> {
-    if same {
-        return Ok(());
+// Runs the case at the front, and answers the bytes behind it.
+fn run_case<'a>(out: &impl Print, data: &'a [u8]) -> io::Result<&'a [u8]> {
+    let (kind, rest) = number(data, 1);
+    let (title, rest) = number(rest, 1);
+    let (asked, rest) = number(rest, 4);
+    let (size, rest) = number(rest, 4);
+    let (length, rest) = number(rest, 4);
+    let (name, rest) = cut(rest, title);
+    let (log, rest) = cut(rest, size);
+    let (expected, rest) = cut(rest, length);
+    if !as_expected(kind, log, asked, expected) {
+        out.write_all(name)?;
+        out.write_all(b" differs\n")?;
     }
-    out.write_all(name)?;
-    out.write_all(b" differs\n")
-}
-
-// Runs the case that begins at `at`, and answers where the next one begins.
-fn run_case(out: &impl Print, data: &[u8], at: usize) -> io::Result<usize> {
-    let kind = number(data, at, 8);
-    let title = number(data, wrapping_add_usize(at, 1), 8);
-    let asked = number(data, wrapping_add_usize(at, 2), 32);
-    let size = number(data, wrapping_add_usize(at, 6), 32);
-    let length = number(data, wrapping_add_usize(at, 10), 32);
-    let name = wrapping_add_usize(at, 14);
-    let log = wrapping_add_usize(name, title);
-    let expected = wrapping_add_usize(log, size);
-    tell(
-        out,
-        as_expected(
-            kind,
-            part(data, log, size),
-            asked,
-            part(data, expected, length),
-        ),
-        part(data, name, title),
-    )?;
-    Ok(wrapping_add_usize(expected, length))
+    Ok(rest)
 }
 
 // Runs every case, and answers how many there are.
 fn run_all(out: &impl Print, data: &[u8]) -> io::Result<usize> {
-    let count = number(data, 0, 16);
-    let mut at: usize = 2;
+    let (count, mut rest) = number(data, 2);
     for _ in 0..count {
-        at = run_case(out, data, at)?;
+        rest = run_case(out, rest)?;
     }
     Ok(count)
 }

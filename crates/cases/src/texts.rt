@@ -1,4 +1,5 @@
 // What the report calls write for a log. Each buffer is filled with a pattern before it is lent, and all of its bytes are compared afterwards.
+// `space` and `room` go side by side, with one fact: the bytes behind the part that is lent are compared too.
 ghost use Rattle.std.specs.Prelude.{◌≡◌, ◌≤◌, true, ◌↔◌, length};
 ghost use Rattle.report.specs.Report.{refused_line};
 ghost use Rattle.reporting.specs.Reports.{written_part, report_text, printed};
@@ -6,7 +7,7 @@ ghost use Rattle.cases.specs.Buffer.{Left};
 ghost use Rattle.cases.specs.Texts.{text_for, Seen};
 
 use crate::buffer;
-use rules::{Refusal, Verdict};
+use rules::Refusal;
 
 // Whether `report`, lent the first `room` bytes of the buffer, hands back the text, leaves it at the front and changes no other byte of the buffer.
 // The contract of `report` cannot speak of the bytes behind the part that it hands back: they are seen here alone.
@@ -16,7 +17,7 @@ fn hands_back(log: &[u8], space: &mut [u8], room: usize, text: &[u8]) -> bool
 {
     buffer::fill(space);
     let part = tool_log::report(log, &mut space[..room]);
-    let back = check::same(part, text);
+    let back = &*part == text;
     back && buffer::left(space, text)
 }
 
@@ -26,7 +27,7 @@ fn says(x: Refusal, expected: &[u8]) -> bool
 {
     let mut line = [0u8; 80];
     let n = report::put_refused_line(&mut line, x);
-    check::same(&line[..n], expected)
+    &line[..n] == expected
 }
 
 // Whether `examine` and `report` answer and write what is expected: the report, or the line of the refusal and nothing written.
@@ -36,10 +37,9 @@ pub fn reports(log: &[u8], space: &mut [u8], room: usize, expected: &[u8]) -> bo
     ensures expected_value { result ≡ true → expected.now ≡ text_for log.now room }
     ensures left { result ≡ true → Left (written_part log.now room) space.new }
 {
-    let verdict = tool_log::examine(log, room);
-    match verdict {
-        Verdict::Refused(x) => says(x, expected) && hands_back(log, space, room, b""),
-        Verdict::Accepted => hands_back(log, space, room, expected),
+    match tool_log::examine(log, room) {
+        Err(x) => says(x, expected) && hands_back(log, space, room, b""),
+        Ok(()) => hands_back(log, space, room, expected),
     }
 }
 

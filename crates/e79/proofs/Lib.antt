@@ -1,5 +1,4 @@
 -- The figures on plain values. One rounding: Units, Rounded. Several: Ratios, Within. The doubles: Quotients, Products. The printed figures: Printing.
-mod Based
 mod Units
 mod Rounded
 mod Ratios

@@ -4,10 +4,11 @@ use mathlib.Core.Logic.{inl, inr}
 use Prim.Native.Nat.{ℕ, zero, suc, ◌+◌, ◌*◌, ◌/◌, ◌%◌, ◌≤◌, ◌<◌}
 use native.Mathlib.Nat.{zero-lt-suc, mul_right_comm, mul_left_comm, mul-le-mul_right, add-mul, one-mul, suc-mul, mod-lt, div-add-mod', div-eq_of_lt-le, div-mul-le_self, lt-div-mul-add, div-lt_iff_lt-mul, div-le_of_le-mul}
 use native.Mathlib.Omega.{arith}
-use Rattle.e79.specs.declared.Printed.TheVariants.{Figure}
+use Rattle.std.specs.Prelude.{Some}
+use Rattle.std.proofs.lemmas.Bool.{cases_lt}
+use Rattle.std.proofs.lemmas.Option.{none-some, same_Some}
 use Rattle.e79.specs.Quantities.{based}
 use Rattle.e79.specs.Printed.{rounded_of, printed_of, NearestWhole}
-use Rattle.e79.proofs.Units.{le-or-lt}
 
 -- ---- r is the printed figure of n / d where 10,000 n / d lies from r - 1 / 2 on and below r + 1 / 2, here times 2 d and with d added
 bounds : (n d : ℕ) → 0 < d → (2 * (rounded_of n d * d) ≤ 20000 * n + d) × (20000 * n + d < 2 * (rounded_of n d * d) + 2 * d)
@@ -31,11 +32,11 @@ rounded-nearest n d D =
     let r = rounded_of n d in
     let b = bounds n d D in
     record {
-      nearest = λ m. elim (le-or-lt m r) [
-        | inl k ↦ elim (le-or-lt r m) [ inl l ↦ omega (arith, mul-le-mul_right d k, mul-le-mul_right d l) | inr l ↦ omega (arith, less d l) ]
-        | inr l ↦ omega (arith, less d l)
+      nearest = λ m. elim (cases_lt r m) [
+        | inl l ↦ omega (arith, less d l)
+        | inr k ↦ elim (cases_lt m r) [ inl l ↦ omega (arith, less d l) | inr l ↦ omega (arith, mul-le-mul_right d k, mul-le-mul_right d l) ]
       ];
-      half_up = λ m e. elim (le-or-lt m r) [ inl l ↦ l | inr l ↦ omega (arith, less d l) ];
+      half_up = λ m e. elim (cases_lt r m) [ inl l ↦ omega (arith, less d l) | inr l ↦ l ];
     }
 
 pub rounded-le-one : (n d : ℕ) → 0 < d → n ≤ d → rounded_of n d ≤ 10000
@@ -46,15 +47,15 @@ rounded-le-one n d D h =
     omega arith
 
 -- as promises of what is printed: a figure is printed where the denominator is not 0, it is nearest, and it is at most 1.0000
-pub printed-figure : (n d f : ℕ) → printed_of n d ≡ Figure f → (0 < d) × NearestWhole f n d
+pub printed-figure : (n d f : ℕ) → printed_of n d ≡ Some f → (0 < d) × NearestWhole f n d
 unfolding printed_of based
-printed-figure n zero f e = let z : ◌≡◌ {A = ℕ} 0 1 = cc in omega arith
-printed-figure n (suc d) f e = let g : rounded_of n (suc d) ≡ f = cc in (zero-lt-suc d, rw g at (rounded-nearest n (suc d) (zero-lt-suc d)))
+printed-figure n zero f e = absurd (none-some f e)
+printed-figure n (suc d) f e = let g : rounded_of n (suc d) ≡ f = same_Some _ _ e in (zero-lt-suc d, rw g at (rounded-nearest n (suc d) (zero-lt-suc d)))
 
-pub printed-le-one : (n d f : ℕ) → n ≤ d → printed_of n d ≡ Figure f → f ≤ 10000
+pub printed-le-one : (n d f : ℕ) → n ≤ d → printed_of n d ≡ Some f → f ≤ 10000
 unfolding printed_of based
-printed-le-one n zero f h e = let z : ◌≡◌ {A = ℕ} 0 1 = cc in omega arith
-printed-le-one n (suc d) f h e = let g : rounded_of n (suc d) ≡ f = cc in omega (arith, rounded-le-one n (suc d) (zero-lt-suc d) h)
+printed-le-one n zero f h e = absurd (none-some f e)
+printed-le-one n (suc d) f h e = omega (arith, same_Some _ _ e, rounded-le-one n (suc d) (zero-lt-suc d) h)
 
 -- ---- two steps of times 100
 -- of a number up to the denominator, a step leaves a quotient up to 100 and a rest below the denominator

@@ -28,16 +28,13 @@ div-plain f (fin false m e) (fin true n i) a c b d p q t = absurd t
 div-plain f (fin false m e) (fin false zero i) a c b d p q t = absurd t
 div-plain f (fin false m e) (fin false (suc n) i) a c b d p q t = rw eqb-suc-zero
 
-same-fraction : (x p y q a c : ℕ) → x ≡ a * p → y ≡ c * q → x * q * c ≡ a * (y * p)
-same-fraction x p y q a c h k = rw (h, k) (simp (mul_assoc, mul_comm, mul_left_comm))
-
 div-whole : (f : Format) (x y : Float) (a c : ℕ) → HasValue x false a 1 → HasValue y false c 1 → 0 < c → div f x y ≡ round f false a c
 div-whole f x y a c v w C =
     let p : num x ≡ a * den x = sym (mul-one (num x)) ∙ value→cross x a 1 v in
     let q : num y ≡ c * den y = sym (mul-one (num y)) ∙ value→cross y c 1 w in
     div-plain f x y a 1 c 1 v w (positive_of_value y c 1 w C)
     ∙ round_same f false (num x * den y) (num y * den x) a c (mul-pos (subst (λ (z : ℕ). 0 < z) (sym q) (mul-pos C (den_pos y))) (den_pos x)) C
-    (same-fraction (num x) (den x) (num y) (den y) a c p q)
+    (rw (p, q) (simp (mul_assoc, mul_comm, mul_left_comm)))
 
 quotient_is : (n d : ℕ) → Portion n d → 0 < d → quotient_of n d ≡ round binary64 false n d
 unfolding quotient_of of_int

@@ -14,12 +14,13 @@ use lib.Ieee.Fits.{two, two-le_pos, and_l, and_r}
 use lib.Ieee.Exact.{HasValue}
 use lib.Ieee.Scale.{grid, round_val, normal_of_fraction, finite}
 use lib.Ieee.Positive.{num, den}
+use Rattle.std.proofs.lemmas.Bool.{cases_lt}
 use Rattle.e79.specs.Accuracy.{gap, off}
-use Rattle.e79.proofs.Units.{le-or-lt, kept-nearest, kept-relative}
+use Rattle.e79.proofs.Units.{kept-nearest, kept-relative}
 
 -- ---- a value of the format is m * 2 ^ j of the smallest values, with an m below 2 ^ prec
 exponents : {j k : ℕ} → 2 ^ j ≤ 2 ^ k → j ≤ k
-exponents {j} {k} h = elim (le-or-lt j k) [ inl l ↦ l | inr l ↦ absurd (lt_irrefl (2 ^ k) (lt_of_lt_of_le (pow-lt l) h)) ]
+exponents {j} {k} h = elim (cases_lt k j) [ inl l ↦ absurd (lt_irrefl (2 ^ k) (lt_of_lt_of_le (pow-lt l) h)) | inr l ↦ l ]
 
 exponent : (l : ℕ) (e : ℤ) → down e ≤ 2 ^ l → (j : ℕ) × (up e * 2 ^ l ≡ 2 ^ j * down e)
 exponent l (pos a) h = (a + l, sym (pow-add 2 a l) ∙ sym (mul-one (2 ^ (a + l))))
@@ -69,16 +70,10 @@ grid-best f a c m j C h = kept-nearest (prec f) (a * 2 ^ low f) c m j (two-le_po
 
 -- nor is zero
 grid-zero : (f : Format) (a c : ℕ) → 0 < c → gap (grid f a c * c) (a * 2 ^ low f) ≤ a * 2 ^ low f
-grid-zero f a c C = le_trans (grid-best f a c 0 0 C (pow_pos (prec f))) (rw (zero-mul c) (from_zero (a * 2 ^ low f)))
-  where
-    from_zero : (n : ℕ) → gap 0 n ≤ n
-    from_zero n = omega arith
+grid-zero f a c C = le_trans (grid-best f a c 0 0 C (pow_pos (prec f))) (rw (zero-mul c) (omega arith))
 
 minus-far : (g a d x c l : ℕ) → g ≤ a * l → g * d ≤ (x * c + a * d) * l
-minus-far g a d x c l h = le_trans (mul-le-mul_right d h) (le_trans (le_of_eq (mul_right_comm a l d)) (mul-le-mul_right l (more (x * c) (a * d))))
-  where
-    more : (u w : ℕ) → w ≤ u + w
-    more u w = omega arith
+minus-far g a d x c l h = le_trans (mul-le-mul_right d h) (le_trans (le_of_eq (mul_right_comm a l d)) (mul-le-mul_right l (omega arith)))
 
 far : (f : Format) (a c : ℕ) (y : Float) → 0 < c → T (fits f y) → T (finite y) → gap (grid f a c * c) (a * 2 ^ low f) * den y ≤ off y a c * 2 ^ low f
 unfolding off
@@ -107,18 +102,12 @@ grid-le-one f a c C h =
     let l = 2 ^ low f in
     le_of_mul-le-mul_right
     (under_one (grid f a c * c) (a * l) (l * c)
-    (subst (λ (z : ℕ). gap (grid f a c * c) (a * l) ≤ gap (z * c) (a * l)) (one-mul l) (grid-best f a c 1 (low f) C (one-lt f)))
+    (subst (λ (z : ℕ). gap (grid f a c * c) (a * l) ≤ gap (z * c) (a * l)) (one-mul l) (grid-best f a c 1 (low f) C (pow-lt (two-le_pos (prec f) (two f)))))
     (le_trans (mul-le-mul_right l h) (le_of_eq (mul_comm c l))))
     C
-  where
-    one-lt : (f : Format) → 1 < 2 ^ prec f
-    one-lt f = pow-lt (two-le_pos (prec f) (two f))
 
 pub round-value : (f : Format) (a c : ℕ) → 0 < c → a ≤ c → HasValue (round f false a c) false (grid f a c) (2 ^ low f)
-round-value f a c C h = round_val f a c (lt_of_le_of_lt (grid-le-one f a c C h) (pow-lt (room (low f) (emax f))))
-  where
-    room : (l m : ℕ) → l < l + suc m
-    room l m = omega arith
+round-value f a c C h = round_val f a c (lt_of_le_of_lt (grid-le-one f a c C h) (pow-lt (omega arith)))
 
 -- ---- in the normal range, and at zero, the error is at most one part in 2 ^ prec of the fraction
 abbrev pub Normal : Format → ℕ → ℕ → Type 0

@@ -56,9 +56,6 @@ once a c C h n =
 quotient-normal : (a c : ℕ) → c < 2 ^ 53 → 0 < a → Normal binary64 a c
 quotient-normal a c C h = le_trans (mul-le-mul_left (2 ^ 52) (le_of_lt C)) (le_trans (lit≤ tt) (mul-le-mul_right (2 ^ 1074) h))
 
-quotient-large : (d n w v : ℕ) → w ≤ v * 2 → d ≤ w → v ≤ n * 2 ^ 53 → d ≤ n * 2 ^ 54
-quotient-large d n w v h p q = omega arith
-
 pub quotient : (a c : ℕ) → 0 < c → a ≤ c → c < 2 ^ 53 → Within 1 (round binary64 false a c) a c
 quotient a c C h s =
     let x = round binary64 false a c in
@@ -66,9 +63,8 @@ quotient a c C h s =
     record {
       rounded = o;
       large = λ X.
-          quotient-large (den x) (num x) (a * den x) (num x * c) (close-half o.close)
-          (rw mul_comm (le-mul_of_pos_right (den x) (pos-back C o.close X)))
-          (mul-le-mul_left (num x) (le_of_lt s));
+          let least : den x ≤ a * den x = rw mul_comm (le-mul_of_pos_right (den x) (pos-back C o.close X)) in
+          omega (arith, close-half o.close, mul-le-mul_left (num x) (le_of_lt s));
     }
 
 -- ---- a product
@@ -124,10 +120,7 @@ product {j} {k} {x} {y} {a} {c} {b} {d} J s t = rw (mul-plain binary64 x y (num 
 
 -- ---- seven roundings
 is_zero : (w v : ℕ) → (0 < w → 0 < v) → v ≡ 0 → w ≡ 0
-is_zero w v h e = elim (eq-zero-or-pos w) [ inl z ↦ z | inr p ↦ absurd (no_zero v (h p) e) ]
-  where
-    no_zero : (v : ℕ) → 0 < v → v ≡ 0 → ⊥
-    no_zero v h e = omega arith
+is_zero w v h e = elim (eq-zero-or-pos w) [ inl z ↦ z | inr p ↦ omega (arith, h p) ]
 
 seven-proper : (x : Float) (n d : ℕ) → T (fits binary64 x) → 0 < d → Roundings 7 x n d → Proper x n d
 unfolding off

@@ -1,12 +1,10 @@
 -- What the doubles are worth, in whole numbers. A finite double x stands for num x / den x, with a minus sign where it is negative, and den x is a power of two (`lib.Ieee.Positive`).
 -- Every comparison is one of fractions, with all denominators multiplied out. Definitions only.
-use Rattle.std.specs.Prelude.{◌≡◌, ◌↔◌, Bool, true, false, ℕ, ◌+◌, ◌-◌, ◌*◌, ◌^◌, ◌≤◌, ◌<◌, T}
+use Rattle.std.specs.Prelude.{◌≡◌, ◌↔◌, Bool, true, false, ℕ, ◌+◌, ◌-◌, ◌*◌, ◌^◌, ◌≤◌, ◌<◌, T, Option, Some, None}
 use lib.Ieee.{Float, nan, inf, fin, binary64, fits}
 use Rattle.std.specs.Float.Ieee.Scale.{finite}
 use Rattle.std.specs.Float.Ieee.Positive.{num, den}
 use Rattle.e79.specs.declared.Quantities.{Quantities}
-use Rattle.e79.specs.declared.Efficiency.{Efficiency}
-use Rattle.e79.specs.declared.Efficiency.TheVariants.{Ratio, NoBase}
 use Rattle.e79.specs.declared.Figures.{Figures}
 use Rattle.e79.specs.Doubles.{combined, left_to_right, figures_of}
 
@@ -43,9 +41,9 @@ pub record Proper (x : Float) (n d : ℕ) : Type 0 where
   pub within : off x n d * 2 ^ 50 ≤ n * den x
 
 -- an efficiency with a base is nearest to n / d, and d is 0 exactly where there is none
-unfoldable pub NearestEfficiency : Efficiency → ℕ → ℕ → Type 0
-NearestEfficiency (Ratio x) n d = (0 < d) × Nearest x n d
-NearestEfficiency NoBase n d = d ≡ 0
+unfoldable pub NearestEfficiency : Option Float → ℕ → ℕ → Type 0
+NearestEfficiency (Some x) n d = (0 < d) × Nearest x n d
+NearestEfficiency None n d = d ≡ 0
 
 -- what a set of doubles is promised to be: what it is computed as, with the product that of the four efficiencies in it, and what it is worth
 pub record Accurate (q : Quantities) (r : Figures) : Type 0 where

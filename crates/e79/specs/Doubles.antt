@@ -1,10 +1,8 @@
 -- Which doubles are computed: `of_int`, `div` and `mul` are IEEE 754's, and `div` and `mul` round once, to the nearest double, a tie to the even one. Definitions only.
-use Rattle.std.specs.Prelude.{ℕ, false, pos, Float}
+use Rattle.std.specs.Prelude.{ℕ, false, pos, Float, Option, Some, None}
 use Rattle.std.specs.Float.{fin, binary64}
 use Rattle.std.specs.Float.Ieee.{of_int, div, mul}
 use Rattle.e79.specs.declared.Quantities.{Quantities}
-use Rattle.e79.specs.declared.Efficiency.{Efficiency}
-use Rattle.e79.specs.declared.Efficiency.TheVariants.{Ratio, NoBase}
 use Rattle.e79.specs.declared.Figures.{Figures}
 use Rattle.e79.specs.Quantities.{based}
 
@@ -13,20 +11,20 @@ unfoldable pub quotient_of : ℕ → ℕ → Float
 quotient_of n d = div binary64 (of_int binary64 (pos n)) (of_int binary64 (pos d))
 
 -- an efficiency: the double, or "no base"
-unfoldable pub efficiency_of : ℕ → ℕ → Efficiency
-efficiency_of n d = based d NoBase (Ratio (quotient_of n d))
+unfoldable pub efficiency_of : ℕ → ℕ → Option Float
+efficiency_of n d = based d None (Some (quotient_of n d))
 
 -- +0.0
 abbrev pub nothing : Float
 nothing = fin false 0 (pos 0)
 
 -- what `multiply` makes of the four doubles, and 0 with any "no base" among the four
-unfoldable pub combined : (Float → Float → Float → Float → Float) → Efficiency → Efficiency → Efficiency → Efficiency → Float
-combined multiply NoBase o r q = nothing
-combined multiply (Ratio a) NoBase r q = nothing
-combined multiply (Ratio a) (Ratio o) NoBase q = nothing
-combined multiply (Ratio a) (Ratio o) (Ratio r) NoBase = nothing
-combined multiply (Ratio a) (Ratio o) (Ratio r) (Ratio q) = multiply a o r q
+unfoldable pub combined : (Float → Float → Float → Float → Float) → Option Float → Option Float → Option Float → Option Float → Float
+combined multiply None o r q = nothing
+combined multiply (Some a) None r q = nothing
+combined multiply (Some a) (Some o) None q = nothing
+combined multiply (Some a) (Some o) (Some r) None = nothing
+combined multiply (Some a) (Some o) (Some r) (Some q) = multiply a o r q
 
 -- availability by operational, then by rate, then by quality
 abbrev pub left_to_right : Float → Float → Float → Float → Float

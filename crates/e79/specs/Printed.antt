@@ -1,7 +1,5 @@
 -- What is printed, in ten-thousandths. Definitions only.
-use Rattle.std.specs.Prelude.{◌≡◌, ℕ, ◌+◌, ◌*◌, ◌/◌, ◌≤◌}
-use Rattle.e79.specs.declared.Printed.{Printed}
-use Rattle.e79.specs.declared.Printed.TheVariants.{Figure, NoBase}
+use Rattle.std.specs.Prelude.{◌≡◌, ℕ, ◌+◌, ◌*◌, ◌/◌, ◌≤◌, Option, Some, None}
 use Rattle.e79.specs.Quantities.{based}
 use Rattle.e79.specs.Accuracy.{gap}
 
@@ -10,8 +8,8 @@ unfoldable pub rounded_of : ℕ → ℕ → ℕ
 rounded_of n d = (20000 * n + d) / (2 * d)
 
 -- a printed figure, or "no base"
-unfoldable pub printed_of : ℕ → ℕ → Printed
-printed_of n d = based d NoBase (Figure (rounded_of n d))
+unfoldable pub printed_of : ℕ → ℕ → Option ℕ
+printed_of n d = based d None (Some (rounded_of n d))
 
 -- r is the whole number nearest to 10,000 n / d, and of two that are equally near the greater; distances are times d
 pub record NearestWhole (r n d : ℕ) : Type 0 where

@@ -1,5 +1,5 @@
 -- What holds of the five quantities of a module or of the tool in every accepted log. Definitions only.
-use Rattle.std.specs.Prelude.{ℕ, zero, suc, ◌^◌, ◌≤◌, ◌<◌}
+use Rattle.std.specs.Prelude.{List, [], ◌∷◌, ℕ, zero, suc, ◌^◌, ◌≤◌, ◌<◌}
 use Rattle.e79.specs.declared.Quantities.{Quantities}
 
 -- none passes the one before it, and total time is above 0 and below 2 ^ 53, up to which a double holds every whole number
@@ -20,3 +20,7 @@ pub record Portion (n d : ℕ) : Type 0 where
 unfoldable pub based : {X : Type 0} → ℕ → X → X → X
 based zero unbased value = unbased
 based (suc d) unbased value = value
+
+-- the five as a list, in the sequence in which they are handed out and printed
+abbrev pub quantities_of : Quantities → List ℕ
+quantities_of q = q.total ∷ q.uptime ∷ q.production ∷ q.actual ∷ q.effective ∷ []

@@ -1,12 +1,15 @@
 // The figures of SEMI E79 from five whole numbers: four efficiencies, the overall equipment efficiency (OEE) and the product of the four, as doubles
 // and as printed. Nothing here knows a log.
 //
-// Both public calls end in `_of_ordered` and have a `requires`, so they are not for a buyer to link: they are called where that is shown, as it is
-// of the quantities of every accepted log.
+// `Portion n d` stands in six contracts, `0 < d` in three: a quotient is of any two quantities, and a type for two would be made at each call.
+// `printed_of_ordered` and `efficiency_of` are alike but for what they make of a quotient: a function over that step would be longer than both.
+//
+// The three public calls have a `requires`, so they are not for a buyer to link: they are called where that is shown, as it is of the quantities of
+// every accepted log.
 #![tactic(auto)]
 
 ghost use Rattle.std.specs.Prelude.{◌≡◌, ◌<◌, ◌^◌};
-ghost use Rattle.e79.specs.Quantities.{Ordered, Portion};
+ghost use Rattle.e79.specs.Quantities.{Ordered, Portion, quantities_of};
 ghost use Rattle.e79.specs.Doubles.{quotient_of, efficiency_of, combined, left_to_right};
 ghost use Rattle.e79.specs.Accuracy.{Accurate};
 ghost use Rattle.e79.specs.Printed.{rounded_of, printed_of};
@@ -22,32 +25,28 @@ pub struct Quantities {
     pub effective: u64,
 }
 
-// A quotient of two quantities, or none where the denominator is 0.
-#[derive(Clone, Copy)]
-pub enum Efficiency {
-    Ratio(f64),
-    NoBase,
+// The five, from total time on.
+impl From<Quantities> for [u64; 5] {
+    ghost from_gives = { λ q numbers. numbers ≡ quantities_of q };
+
+    fn from(q: Quantities) -> [u64; 5] {
+        [q.total, q.uptime, q.production, q.actual, q.effective]
+    }
 }
 
-// The set of doubles of a module or of the tool.
+// The set of doubles of a module or of the tool. An efficiency is a quotient of two quantities, and none where the denominator is 0.
 #[derive(Clone, Copy)]
 pub struct Figures {
-    pub availability: Efficiency,
-    pub operational: Efficiency,
-    pub rate: Efficiency,
-    pub quality: Efficiency,
+    pub availability: Option<f64>,
+    pub operational: Option<f64>,
+    pub rate: Option<f64>,
+    pub quality: Option<f64>,
     pub oee: f64,
     pub product: f64,
 }
 
-// A printed figure in ten-thousandths, or none where the denominator is 0.
-#[derive(Clone, Copy)]
-pub enum Printed {
-    Figure(u64),
-    NoBase,
-}
-
 // The set of doubles, with each quotient and each multiplication rounded once. The caller owes that the quantities are ordered.
+#[tactic(auto, using(crate::proofs::Products::accurate), unfolding(crate::specs::Doubles::figures_of))]
 pub fn figures_of_ordered(q: Quantities) -> Figures
     requires { Ordered q }
     ensures { Accurate q result }
@@ -68,20 +67,22 @@ pub fn figures_of_ordered(q: Quantities) -> Figures
     }
 }
 
-// The printed figure, worked out from the whole numbers and not from a double. The caller owes that the two are ordered.
+// The printed figure in ten-thousandths, worked out from the whole numbers and not from a double; none where the denominator is 0. The caller owes
+// that the two are ordered.
 #[tactic(auto, unfolding(crate::specs::Printed::printed_of, crate::specs::Quantities::based))]
-pub fn printed_of_ordered(numerator: u64, denominator: u64) -> Printed
+pub fn printed_of_ordered(numerator: u64, denominator: u64) -> Option<u64>
     requires { Portion numerator denominator }
     ensures { result ≡ printed_of numerator denominator }
 {
     if denominator == 0 {
-        Printed::NoBase
+        None
     } else {
-        Printed::Figure(rounded_of(numerator, denominator))
+        Some(rounded_of(numerator, denominator))
     }
 }
 
 // Ten thousand times n / d to the nearest whole number, a half going up, where 20,000 d fits.
+#[tactic(auto, unfolding(crate::specs::Printed::rounded_of))]
 fn rounded_at_once(n: u64, d: u64) -> u64
     requires portion { Portion n d }
     requires d_nonzero { (0 < d) × (d < 2 ^ 48) }
@@ -91,6 +92,7 @@ fn rounded_at_once(n: u64, d: u64) -> u64
 }
 
 // The same in two steps of times 100, for any denominator.
+#[tactic(auto, using(crate::proofs::Printing::step, crate::proofs::Printing::half_not_reached, crate::proofs::Printing::half_reached))]
 fn rounded_in_steps(n: u64, d: u64) -> u64
     requires portion { Portion n d }
     requires d_nonzero { 0 < d }
@@ -103,7 +105,7 @@ fn rounded_in_steps(n: u64, d: u64) -> u64
     if rest * 2 < d { whole } else { whole + 1 }
 }
 
-// Ten thousand times n / d to the nearest whole number, a half going up. The sums of a tool are far below 2^48.
+// Ten thousand times n / d to the nearest whole number, a half going up. Two ways, for speed: below 2^48, as a tool's sums are, one division does.
 pub fn rounded_of(n: u64, d: u64) -> u64
     requires portion { Portion n d }
     requires d_nonzero { 0 < d }
@@ -117,6 +119,7 @@ pub fn rounded_of(n: u64, d: u64) -> u64
 }
 
 // One division of two whole numbers, which are exact as doubles.
+#[tactic(auto, unfolding(crate::specs::Doubles::quotient_of))]
 fn quotient_of(n: u64, d: u64) -> f64
     requires { Portion n d }
     ensures { result ≡ quotient_of n d }
@@ -125,37 +128,29 @@ fn quotient_of(n: u64, d: u64) -> f64
 }
 
 #[tactic(auto, unfolding(crate::specs::Doubles::efficiency_of, crate::specs::Quantities::based))]
-fn efficiency_of(n: u64, d: u64) -> Efficiency
+fn efficiency_of(n: u64, d: u64) -> Option<f64>
     requires { Portion n d }
     ensures { result ≡ efficiency_of n d }
 {
     if d == 0 {
-        Efficiency::NoBase
+        None
     } else {
-        Efficiency::Ratio(quotient_of(n, d))
+        Some(quotient_of(n, d))
     }
 }
 
 // Availability by operational, then by rate, then by quality; +0.0 where one of them has no base.
+#[tactic(auto, unfolding(crate::specs::Doubles::combined))]
 fn product_of(
-    availability: Efficiency,
-    operational: Efficiency,
-    rate: Efficiency,
-    quality: Efficiency,
+    availability: Option<f64>,
+    operational: Option<f64>,
+    rate: Option<f64>,
+    quality: Option<f64>,
 ) -> f64
     ensures { result ≡ combined left_to_right availability operational rate quality }
 {
-    let Efficiency::Ratio(a) = availability else {
-        return 0.0;
-    };
-    let Efficiency::Ratio(o) = operational else {
-        return 0.0;
-    };
-    let Efficiency::Ratio(r) = rate else {
-        return 0.0;
-    };
-    let Efficiency::Ratio(q) = quality else {
-        return 0.0;
-    };
-    a * o * r * q
+    match (availability, operational, rate, quality) {
+        (Some(a), Some(o), Some(r), Some(q)) => a * o * r * q,
+        _ => 0.0,
+    }
 }

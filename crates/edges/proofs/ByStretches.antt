@@ -12,9 +12,10 @@ use Rattle.records.specs.Log.{Log, header_of, decode}
 use Rattle.e79.specs.declared.Quantities.{Quantities}
 use Rattle.e79.specs.Quantities.{based}
 use Rattle.e79.specs.Printed.{rounded_of, printed_of}
-use Rattle.rules.specs.declared.Verdict.{Verdict}
-use Rattle.rules.specs.declared.Verdict.TheVariants.{Accepted, Refused}
-use Rattle.rules.specs.Grounds.{ground, ◌then◌, first_of}
+use Rattle.rules.specs.declared.Ground.TheVariants.{TooFast, TooGreat}
+use Rattle.rules.specs.declared.LogList.TheVariants.{NoList}
+use Rattle.std.specs.declared.result.Result.TheVariants.{Ok, Err}
+use Rattle.rules.specs.Grounds.{Verdict, ground, ◌then◌, first_of}
 use Rattle.rules.specs.Time.{is_state}
 use Rattle.rules.specs.RecordGrounds.{state_grounds, standard_grounds, unit_grounds}
 use Rattle.rules.specs.Quantities.{time_in, uptime, actual_time, effective_time, sum_below, of_module, of_tool, tool_times}
@@ -55,7 +56,7 @@ summed each n =
 abbrev states_of : Log → Verdict
 states_of l = state_grounds l.period l.modules l.states
 
-same : (l : Log) → states_of l ≡ Accepted → of_module l ≡ quantities_by l
+same : (l : Log) → states_of l ≡ Ok tt → of_module l ≡ quantities_by l
 unfolding uptime time_in
 same l a = fun_ext (λ m. simp (accepted_by_stretches l.period l.modules m l.states a))
 
@@ -63,8 +64,8 @@ same l a = fun_ext (λ m. simp (accepted_by_stretches l.period l.modules m l.sta
 
 -- by stretches where the state records are accepted
 abbrev report_in : Verdict → Log → List ℕ
-report_in Accepted l = report_of l.modules (quantities_by l) (summed (quantities_by l) l.modules)
-report_in (Refused x) l = report_text l
+report_in (Ok tt) l = report_of l.modules (quantities_by l) (summed (quantities_by l) l.modules)
+report_in (Err x) l = report_text l
 
 unfoldable pub report_by : Log → List ℕ
 unfolding state_grounds is_state actual_time effective_time sum_below report_of table_of joined heading module_line short tool_line tool figures figure shown places printed_of rounded_of based
@@ -75,27 +76,27 @@ unfolding report_text report_by
 report_by-stretches l = go (states_of l) refl
   where
     go : (v : Verdict) → states_of l ≡ v → report_text l ≡ report_in v l
-    go Accepted a = ap (λ (each : ℕ → Quantities). report_of l.modules each (summed each l.modules)) (same l a)
-    go (Refused x) a = refl
+    go (Ok tt) a = ap (λ (each : ℕ → Quantities). report_of l.modules each (summed each l.modules)) (same l a)
+    go (Err x) a = refl
 
 -- ---- the verdict
 
 -- what comes second matters only where the first accepts
-then_same : (u v w : Verdict) → (u ≡ Accepted → v ≡ w) → u then v ≡ u then w
-then_same Accepted v w h = h refl
-then_same (Refused x) v w h = refl
+then_same : (u v w : Verdict) → (u ≡ Ok tt → v ≡ w) → u then v ≡ u then w
+then_same (Ok tt) v w h = h refl
+then_same (Err x) v w h = refl
 
 abbrev fast_by : Log → ℕ → Verdict
-fast_by l m = ground 16 0 m (ltb (time_by l 0 m) (actual_time l m))
+fast_by l m = ground TooFast NoList m (ltb (time_by l 0 m) (actual_time l m))
 
 -- 17 is never met
 sums-by-stretches : (l : Log) → Grounded l → sum_grounds l ≡ first_of (fast_by l) l.modules
 unfolding sum_grounds fast_ground
 sums-by-stretches l g =
     let fast = first_of (fast_ground l) l.modules in
-    then_same fast (ground 17 0 0 (any_over (of_tool l) || any_time_over (tool_times l))) Accepted (λ e. ap (ground 17 0 0) (none_over l (consistent l g e)))
+    then_same fast (ground TooGreat NoList 0 (any_over (of_tool l) || any_time_over (tool_times l))) (Ok tt) (λ e. ap (ground TooGreat NoList 0) (none_over l (consistent l g e)))
     ∙ then-accepted fast
-    ∙ ap (λ (each : ℕ → Quantities). first_of (λ m. ground 16 0 m (ltb (each m).production (each m).actual)) l.modules) (same l g.states)
+    ∙ ap (λ (each : ℕ → Quantities). first_of (λ m. ground TooFast NoList m (ltb (each m).production (each m).actual)) l.modules) (same l g.states)
 
 unfoldable pub verdict_by : List ℕ → Verdict
 unfolding header_grounds state_grounds standard_grounds unit_grounds first_of is_state actual_time decode header_from state_from standard_from unit_from field bit

@@ -6,25 +6,26 @@ use Prim.Native.Nat.{ℕ}
 use lib.Dec.{ltb}
 use lib.ListN.{length}
 use Rattle.records.specs.Log.{decode}
-use Rattle.rules.specs.declared.Verdict.{Verdict}
-use Rattle.rules.specs.declared.Verdict.TheVariants.{Accepted}
-use Rattle.rules.specs.Grounds.{ground, ◌then◌}
+use Rattle.rules.specs.declared.Ground.TheVariants.{ShortBuffer}
+use Rattle.rules.specs.declared.LogList.TheVariants.{NoList}
+use Rattle.std.specs.declared.result.Result.TheVariants.{Ok}
+use Rattle.rules.specs.Grounds.{Verdict, ground, ◌then◌}
 use Rattle.rules.specs.Verdict.{verdict}
 use Rattle.reporting.specs.Reports.{report_text, verdict_for, written_by, written_part}
 use Rattle.edges.specs.CaseW.{case_w, case_w_log, case_w_report, CaseW}
 use Rattle.edges.proofs.ByStretches.{verdict_by, verdict_by-stretches, report_by, report_by-stretches}
 
 -- what a buffer gets, from the report on an accepted log
-module _ (s text : List ℕ) (a : verdict s ≡ Accepted) (r : report_text (decode s) ≡ text) (room : ℕ) where
-  for-room : verdict_for s room ≡ ground 18 0 0 (ltb room (length text))
+module _ (s text : List ℕ) (a : verdict s ≡ Ok tt) (r : report_text (decode s) ≡ text) (room : ℕ) where
+  for-room : verdict_for s room ≡ ground ShortBuffer NoList 0 (ltb room (length text))
   unfolding verdict_for
-  for-room = ap₂ (λ (v : Verdict) (t : List ℕ). v then ground 18 0 0 (ltb room (length t))) a r
+  for-room = ap₂ (λ (v : Verdict) (t : List ℕ). v then ground ShortBuffer NoList 0 (ltb room (length t))) a r
 
-  part : written_part s room ≡ written_by (ground 18 0 0 (ltb room (length text))) text
+  part : written_part s room ≡ written_by (ground ShortBuffer NoList 0 (ltb room (length text))) text
   unfolding written_part
   part = ap₂ written_by for-room r
 
-accepted : verdict case_w ≡ Accepted
+accepted : verdict case_w ≡ Ok tt
 unfolding verdict_by case_w
 accepted = verdict_by-stretches case_w
 

@@ -2,13 +2,14 @@
 -- Assumes nothing.
 use mathlib.Core.Path.{◌≡◌, refl, ◌∙◌}
 use mathlib.Core.List.{List, [], ◌∷◌}
+use Rattle.std.specs.List.{AllByRecursion}
 use Rattle.bits.specs.Put.{number, bytes_of, put_bit}
 use Rattle.records.specs.Log.{decode}
 use Rattle.records.specs.Encode.{encode}
 use Rattle.e79.specs.Doubles.{efficiency_of, combined, figures_of}
 use Rattle.rules.specs.Quantities.{actual_time, uptime, of_module}
 use Rattle.report.specs.Report.{figure, tool_line}
-use Rattle.edges.specs.Cases.{Claim, answers, credits, reports, multiplies, prints, lines, Holds, All, cases}
+use Rattle.edges.specs.Cases.{Claim, answers, credits, reports, multiplies, prints, lines, Holds, cases}
 use Rattle.edges.proofs.ByStretches.{verdict_by, verdict_by-stretches, report_by, report_by-stretches}
 
 -- what computes for a claim: its verdict and its report by stretches
@@ -28,17 +29,16 @@ holds (multiplies s m x) e = e
 holds (prints n d text) e = e
 holds (lines q text) e = e
 
-infixr 20 ◌and◌
-pub data AllCompute : List Claim → Type 0 where
-  done : AllCompute []
-  ◌and◌ : {c : Claim} {cs : List Claim} → Computes c → AllCompute cs → AllCompute (c ∷ cs)
+pub all : (cs : List Claim) → AllByRecursion Computes cs → AllByRecursion Holds cs
+all [] a = tt
+all (c ∷ cs) a = (holds c a.0, all cs a.1)
 
-pub all : {cs : List Claim} → AllCompute cs → All cs
-all done = tt
-all (◌and◌ {c = c} e es) = (holds c e, all es)
+infixr 20 ◌and◌
+pub ◌and◌ : {A B : Type 0} → A → B → A × B
+a and b = (a, b)
 
 -- a line for each case, in the sequence of the list
-computed : AllCompute cases
+computed : AllByRecursion Computes cases
 unfolding verdict_by report_by uptime efficiency_of combined figures_of encode number bytes_of put_bit
 computed =
     refl and refl
@@ -54,7 +54,7 @@ computed =
     and refl and refl
     and refl
     and refl
-    and done
+    and tt
 
-pub starred : All cases
-starred = all computed
+pub starred : AllByRecursion Holds cases
+starred = all cases computed

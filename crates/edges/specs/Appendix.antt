@@ -1,7 +1,7 @@
 -- R1-3 of document 002 whole: the 106 bytes of its log, the 56 of its benchmarks, and its four supplemental figures. Definitions only.
 use Rattle.std.specs.Prelude.{ℕ, ◌≡◌, List, [], ◌∷◌}
 use Rattle.records.specs.Log.{decode}
-use Rattle.rules.specs.declared.Verdict.TheVariants.{Accepted}
+use Rattle.std.specs.declared.result.Result.TheVariants.{Ok}
 use Rattle.benchmarks.specs.Benchmarks.{benchmark_at, verdict_with}
 use Rattle.supplemental.specs.Supplemental.{supplemental_of}
 
@@ -29,5 +29,5 @@ benchmarks_of_r13 =
     ∷ 0x00 ∷ 0x3a ∷ 0x96 ∷ 0x80 ∷ 0x07 ∷ 0x24 ∷ 0x20 ∷ 0x00 ∷ 0x46 ∷ 0x50 ∷ 0x00 ∷ 0x00 ∷ 0x1c ∷ 0x20 ∷ []
 
 pub record R13 : Type 0 where
-  pub accepted : verdict_with week_of_r13 benchmarks_of_r13 ≡ Accepted
+  pub accepted : verdict_with week_of_r13 benchmarks_of_r13 ≡ Ok tt
   pub figures : supplemental_of (decode week_of_r13) (benchmark_at benchmarks_of_r13) ≡ record { reference = 6706; optimized = 4589; added = 1595; units = 7733 }

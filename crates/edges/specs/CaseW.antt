@@ -2,7 +2,9 @@
 use Rattle.std.specs.Prelude.{ℕ, ◌≡◌, List, [], ◌∷◌, ◌++◌, length}
 use Rattle.records.specs.declared.UnitRecord.{UnitRecord}
 use Rattle.records.specs.Log.{Log, decode}
-use Rattle.rules.specs.declared.Verdict.TheVariants.{Accepted}
+use Rattle.rules.specs.declared.Ground.TheVariants.{ShortBuffer}
+use Rattle.rules.specs.declared.LogList.TheVariants.{NoList}
+use Rattle.std.specs.declared.result.Result.TheVariants.{Ok}
 use Rattle.rules.specs.Verdict.{verdict}
 use Rattle.report.specs.Text.{ascii}
 use Rattle.reporting.specs.Reports.{report_text, verdict_for, written_part}
@@ -51,8 +53,8 @@ case_w_report =
 -- what is claimed: the bytes say those numbers, and their report is the whole one; it fits a buffer of 183 bytes, and none of 182
 pub record CaseW : Type 0 where
   pub records : decode case_w ≡ case_w_log
-  pub accepted : verdict case_w ≡ Accepted
+  pub accepted : verdict case_w ≡ Ok tt
   pub report : report_text (decode case_w) ≡ case_w_report
   pub size : length case_w_report ≡ 183
   pub in_183 : written_part case_w 183 ≡ case_w_report
-  pub in_182 : verdict_for case_w 182 ≡ refused 18 0 0
+  pub in_182 : verdict_for case_w 182 ≡ refused ShortBuffer NoList 0

@@ -7,8 +7,12 @@ use Rattle.records.specs.Log.{Log, up_to, decode}
 use Rattle.records.specs.Encode.{encode}
 use Rattle.e79.specs.declared.Quantities.{Quantities}
 use Rattle.e79.specs.Doubles.{figures_of, nothing}
-use Rattle.rules.specs.declared.Verdict.{Verdict}
-use Rattle.rules.specs.declared.Verdict.TheVariants.{Accepted, Refused}
+use Rattle.rules.specs.declared.Ground.{Ground}
+use Rattle.rules.specs.declared.LogList.{LogList}
+use Rattle.rules.specs.declared.Ground.TheVariants.{NoHeader, Period, Modules, StrayCode, Outside, Sequence, OverGood, NoStandard, TooFast}
+use Rattle.rules.specs.declared.LogList.TheVariants.{NoList, States, Units}
+use Rattle.rules.specs.Grounds.{Verdict, refusal}
+use Rattle.std.specs.declared.result.Result.TheVariants.{Ok, Err}
 use Rattle.rules.specs.Quantities.{actual_time, of_module}
 use Rattle.rules.specs.Verdict.{verdict}
 use Rattle.report.specs.Text.{ascii}
@@ -38,10 +42,6 @@ Holds (multiplies s m x) = (figures_of (of_module (decode s) m)).product ≡ x
 Holds (prints n d text) = figure n d ≡ text
 Holds (lines q text) = tool_line q ≡ text
 
-abbrev pub All : List Claim → Type 0
-All [] = Unit {0}
-All (c ∷ cs) = Holds c × All cs
-
 -- ---- inputs
 
 abbrev pub state : ℕ → ℕ → ℕ → StateRecord
@@ -61,8 +61,8 @@ units time actual effective = record { «module» = 0; recipe = 0; time = time; 
 abbrev pub log : ℕ → ℕ → List StateRecord → List Standard → List UnitRecord → Log
 log period modules ss ts us = record { period = period; modules = modules; states = ss; standards = ts; units = us }
 
-abbrev pub refused : ℕ → ℕ → ℕ → Verdict
-refused n l p = Refused (record { number = n; list = l; place = p })
+abbrev pub refused : Ground → LogList → ℕ → Verdict
+refused g l p = Err (refusal g l p)
 
 -- one module that is productive from 0 on
 abbrev pub all_productive : ℕ → Log
@@ -85,39 +85,39 @@ made ts us = log 10 1 (state 0 0 0 ∷ []) ts us
 abbrev pub cases : List Claim
 cases =
     -- 1. Empty input: 1. Nine bytes: 1.
-    answers [] (refused 1 0 0)
-    ∷ answers (replicate 9 0) (refused 1 0 0)
+    answers [] (refused NoHeader NoList 0)
+    ∷ answers (replicate 9 0) (refused NoHeader NoList 0)
     -- 2. Period 31,622,400,000 passes; 31,622,400,001: 2.
-    ∷ answers (encode (all_productive 31622400000)) Accepted
-    ∷ answers (encode (all_productive 31622400001)) (refused 2 0 0)
+    ∷ answers (encode (all_productive 31622400000)) (Ok tt)
+    ∷ answers (encode (all_productive 31622400001)) (refused Period NoList 0)
     -- 3. 64 modules pass; 65: 3.
-    ∷ answers (encode (cluster 64 64)) Accepted
-    ∷ answers (encode (cluster 65 64)) (refused 3 0 0)
+    ∷ answers (encode (cluster 64 64)) (Ok tt)
+    ∷ answers (encode (cluster 65 64)) (refused Modules NoList 0)
     -- 5. Time equal to the period less 1 passes; equal to it: 9.
-    ∷ answers (encode (changed 0 9)) Accepted
-    ∷ answers (encode (changed 0 10)) (refused 9 1 1)
+    ∷ answers (encode (changed 0 9)) (Ok tt)
+    ∷ answers (encode (changed 0 10)) (refused Outside States 1)
     -- 6. Code 23 passes; 24: 8.
-    ∷ answers (encode (changed 23 5)) Accepted
-    ∷ answers (encode (changed 24 5)) (refused 8 1 1)
+    ∷ answers (encode (changed 23 5)) (Ok tt)
+    ∷ answers (encode (changed 24 5)) (refused StrayCode States 1)
     -- 7. Two records of one module at one time: 10. Of two modules, the lower first: passes.
-    ∷ answers (encode (log 10 1 (state 0 0 0 ∷ state 0 7 0 ∷ []) [] [])) (refused 10 1 1)
-    ∷ answers (encode (log 10 2 (state 0 0 0 ∷ state 1 0 0 ∷ []) [] [])) Accepted
+    ∷ answers (encode (log 10 1 (state 0 0 0 ∷ state 0 7 0 ∷ []) [] [])) (refused Sequence States 1)
+    ∷ answers (encode (log 10 2 (state 0 0 0 ∷ state 1 0 0 ∷ []) [] [])) (Ok tt)
     -- 8. A unit at a standard's start takes that standard; 1 ms earlier, the former one, or 15 if there is none.
-    ∷ answers (encode (made (standard 0 2 ∷ standard 4 3 ∷ []) (units 4 1 1 ∷ []))) Accepted
+    ∷ answers (encode (made (standard 0 2 ∷ standard 4 3 ∷ []) (units 4 1 1 ∷ []))) (Ok tt)
     ∷ credits (encode (made (standard 0 2 ∷ standard 4 3 ∷ []) (units 4 1 1 ∷ []))) 0 3
-    ∷ answers (encode (made (standard 0 2 ∷ standard 4 3 ∷ []) (units 3 1 1 ∷ []))) Accepted
+    ∷ answers (encode (made (standard 0 2 ∷ standard 4 3 ∷ []) (units 3 1 1 ∷ []))) (Ok tt)
     ∷ credits (encode (made (standard 0 2 ∷ standard 4 3 ∷ []) (units 3 1 1 ∷ []))) 0 2
-    ∷ answers (encode (made (standard 4 3 ∷ []) (units 3 1 1 ∷ []))) (refused 15 3 0)
+    ∷ answers (encode (made (standard 4 3 ∷ []) (units 3 1 1 ∷ []))) (refused NoStandard Units 0)
     -- 9. Effective equal to actual passes; one more: 14.
-    ∷ answers (encode (made (standard 0 2 ∷ []) (units 0 3 3 ∷ []))) Accepted
-    ∷ answers (encode (made (standard 0 2 ∷ []) (units 0 3 4 ∷ []))) (refused 14 3 0)
+    ∷ answers (encode (made (standard 0 2 ∷ []) (units 0 3 3 ∷ []))) (Ok tt)
+    ∷ answers (encode (made (standard 0 2 ∷ []) (units 0 3 4 ∷ []))) (refused OverGood Units 0)
     -- 10. Actual theoretical time equal to a production time above 0 gives rate 1.0000; 1 ms more: 16.
-    ∷ answers (encode (made (standard 0 2 ∷ []) (units 0 5 5 ∷ []))) Accepted
+    ∷ answers (encode (made (standard 0 2 ∷ []) (units 0 5 5 ∷ []))) (Ok tt)
     ∷ reports (encode (made (standard 0 2 ∷ []) (units 0 5 5 ∷ [])))
     (ascii "module avail oper rate qual oee\n0 1.0000 1.0000 1.0000 1.0000 1.0000\ntool 1.0000 1.0000 1.0000 1.0000 1.0000\n")
-    ∷ answers (encode (made (standard 0 11 ∷ []) (units 0 1 1 ∷ []))) (refused 16 0 0)
+    ∷ answers (encode (made (standard 0 11 ∷ []) (units 0 1 1 ∷ []))) (refused TooFast NoList 0)
     -- 11. No uptime: operational, rate and quality `-`, OEE 0.0000, product 0.
-    ∷ answers (encode (log 10 1 (state 0 22 0 ∷ []) [] [])) Accepted
+    ∷ answers (encode (log 10 1 (state 0 22 0 ∷ []) [] [])) (Ok tt)
     ∷ reports (encode (log 10 1 (state 0 22 0 ∷ []) [] [])) (ascii "module avail oper rate qual oee\n0 0.0000 - - - 0.0000\ntool 0.0000 - - - 0.0000\n")
     ∷ multiplies (encode (log 10 1 (state 0 22 0 ∷ []) [] [])) 0 nothing
     -- 12. Numerator 1 over 20,000 prints 0.0001; 1 over 20,001 prints 0.0000.

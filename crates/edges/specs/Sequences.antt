@@ -5,7 +5,9 @@ use Rattle.records.specs.declared.Standard.{Standard}
 use Rattle.records.specs.declared.UnitRecord.{UnitRecord}
 use Rattle.records.specs.Log.{Log}
 use Rattle.records.specs.Encode.{encode}
-use Rattle.rules.specs.declared.Verdict.TheVariants.{Accepted}
+use Rattle.rules.specs.declared.Ground.TheVariants.{Sequence, Twice, NoStandard, Unsorted}
+use Rattle.rules.specs.declared.LogList.TheVariants.{States, Standards, Units}
+use Rattle.std.specs.declared.result.Result.TheVariants.{Ok}
 use Rattle.edges.specs.Cases.{Claim, answers, state, standard_of, log, refused}
 
 -- a standard of module m that takes 1 ms, and one unit that it made
@@ -32,26 +34,26 @@ units = unit_of 5 0 1 ∷ unit_of 5 0 2 ∷ unit_of 5 1 1 ∷ unit_of 6 0 1 ∷ 
 abbrev pub sequences : List Claim
 sequences =
     -- one log of the shift is accepted
-    answers (encode (listed states standards units)) Accepted
+    answers (encode (listed states standards units)) (Ok tt)
     -- the same records: openings by falling module
-    ∷ answers (encode (listed (state 1 0 0 ∷ state 0 0 0 ∷ []) standards units)) (refused 10 1 1)
+    ∷ answers (encode (listed (state 1 0 0 ∷ state 0 0 0 ∷ []) standards units)) (refused Sequence States 1)
     -- standards by start; by recipe and start over all modules; by falling module
-    ∷ answers (encode (listed states (from 0 1 0 ∷ from 0 2 0 ∷ from 0 1 4 ∷ from 1 1 0 ∷ []) units)) (refused 19 2 2)
-    ∷ answers (encode (listed states (from 0 1 0 ∷ from 1 1 0 ∷ from 0 1 4 ∷ from 0 2 0 ∷ []) units)) (refused 19 2 2)
-    ∷ answers (encode (listed states (from 1 1 0 ∷ from 0 1 0 ∷ from 0 1 4 ∷ from 0 2 0 ∷ []) units)) (refused 19 2 1)
+    ∷ answers (encode (listed states (from 0 1 0 ∷ from 0 2 0 ∷ from 0 1 4 ∷ from 1 1 0 ∷ []) units)) (refused Unsorted Standards 2)
+    ∷ answers (encode (listed states (from 0 1 0 ∷ from 1 1 0 ∷ from 0 1 4 ∷ from 0 2 0 ∷ []) units)) (refused Unsorted Standards 2)
+    ∷ answers (encode (listed states (from 1 1 0 ∷ from 0 1 0 ∷ from 0 1 4 ∷ from 0 2 0 ∷ []) units)) (refused Unsorted Standards 1)
     -- units by module; of one time by falling module; of one time and module by falling recipe
-    ∷ answers (encode (listed states standards (unit_of 5 0 1 ∷ unit_of 5 0 2 ∷ unit_of 6 0 1 ∷ unit_of 5 1 1 ∷ []))) (refused 19 3 3)
-    ∷ answers (encode (listed states standards (unit_of 5 0 1 ∷ unit_of 5 1 1 ∷ unit_of 5 0 2 ∷ unit_of 6 0 1 ∷ []))) (refused 19 3 2)
-    ∷ answers (encode (listed states standards (unit_of 5 0 2 ∷ unit_of 5 0 1 ∷ unit_of 5 1 1 ∷ unit_of 6 0 1 ∷ []))) (refused 19 3 1)
+    ∷ answers (encode (listed states standards (unit_of 5 0 1 ∷ unit_of 5 0 2 ∷ unit_of 6 0 1 ∷ unit_of 5 1 1 ∷ []))) (refused Unsorted Units 3)
+    ∷ answers (encode (listed states standards (unit_of 5 0 1 ∷ unit_of 5 1 1 ∷ unit_of 5 0 2 ∷ unit_of 6 0 1 ∷ []))) (refused Unsorted Units 2)
+    ∷ answers (encode (listed states standards (unit_of 5 0 2 ∷ unit_of 5 0 1 ∷ unit_of 5 1 1 ∷ unit_of 6 0 1 ∷ []))) (refused Unsorted Units 1)
     -- two units alike in time, module and recipe
-    ∷ answers (encode (listed states standards (unit_of 5 0 1 ∷ unit_of 5 0 1 ∷ []))) (refused 19 3 1)
+    ∷ answers (encode (listed states standards (unit_of 5 0 1 ∷ unit_of 5 0 1 ∷ []))) (refused Unsorted Units 1)
     -- a state record that is earlier, though later than its own module's last
-    ∷ answers (encode (listed (state 0 0 0 ∷ state 1 0 0 ∷ state 0 7 5 ∷ state 1 7 4 ∷ []) [] [])) (refused 10 1 3)
+    ∷ answers (encode (listed (state 0 0 0 ∷ state 1 0 0 ∷ state 0 7 5 ∷ state 1 7 4 ∷ []) [] [])) (refused Sequence States 3)
     -- a standard equal to the one before, and to one further up, stays 13
-    ∷ answers (encode (listed states (from 0 1 0 ∷ from 0 1 0 ∷ []) [])) (refused 13 2 1)
-    ∷ answers (encode (listed states (from 0 1 0 ∷ from 0 2 0 ∷ from 0 1 0 ∷ []) [])) (refused 13 2 2)
+    ∷ answers (encode (listed states (from 0 1 0 ∷ from 0 1 0 ∷ []) [])) (refused Twice Standards 1)
+    ∷ answers (encode (listed states (from 0 1 0 ∷ from 0 2 0 ∷ from 0 1 0 ∷ []) [])) (refused Twice Standards 2)
     -- a unit that has no standard either
-    ∷ answers (encode (listed states standards (unit_of 5 0 1 ∷ unit_of 4 0 3 ∷ []))) (refused 15 3 1)
+    ∷ answers (encode (listed states standards (unit_of 5 0 1 ∷ unit_of 4 0 3 ∷ []))) (refused NoStandard Units 1)
     -- 19 is a record's own: it comes ahead of a fault in the next
-    ∷ answers (encode (listed states standards (unit_of 5 0 1 ∷ unit_of 4 0 1 ∷ unit_of 10 0 1 ∷ []))) (refused 19 3 1)
+    ∷ answers (encode (listed states standards (unit_of 5 0 1 ∷ unit_of 4 0 1 ∷ unit_of 10 0 1 ∷ []))) (refused Unsorted Units 1)
     ∷ []

@@ -1,14 +1,16 @@
--- The bytes of a number, the most significant first: how many, which, where a number of two parts is cut, and how they are put one by one.
+-- The bytes of a number, the most significant first: how many, which, where a number of two parts is cut, and which of them the machine's are.
 -- Assumes nothing.
 use mathlib.Core.Path.{◌≡◌, refl, sym, ap, ap₂, ◌∙◌}
-use mathlib.Core.List.{List, ◌∷◌, ◌++◌}
+use mathlib.Core.List.{◌∷◌, ◌++◌}
 use Prim.Native.Nat.{ℕ, zero, suc, ◌+◌, ◌-◌, ◌*◌, ◌/◌, ◌%◌, ◌^◌, ◌≤◌, ◌<◌}
-use native.Mathlib.Nat.{zero-add, suc-add}
+use native.Mathlib.Nat.{zero-add, suc-add, pow-suc}
 use native.Mathlib.Omega.{arith}
-use lib.ListN.{length, get_or, set}
-use lib.Pow.{shr-shr, field, mod-mod-pow}
-use Rattle.filling.specs.Buffer.{Put, big_endian}
-use Rattle.filling.proofs.Written.{Copied, copied_none, copied_more, copied_all}
+use lib.ListN.{length, get_or, drop, length-drop}
+use lib.Seq.{take_all}
+use lib.Pow.{pow-add, shr-shr, field, mod-mod-pow}
+use Rattle.std.specs.List.{between}
+use Rattle.std.specs.Int.{byte_at, bytes_high_first}
+use Rattle.filling.specs.Buffer.{big_endian}
 
 pub number-length : (n v : ℕ) → length (big_endian n v) ≡ n
 unfolding big_endian
@@ -27,7 +29,7 @@ number-byte (suc n) v (suc i) h =
     rw e (number-byte n v i (omega arith))
 
 -- a number's low bytes are those of its remainder
-number-low : (n v w : ℕ) → v % 2 ^ (8 * n) ≡ w % 2 ^ (8 * n) → big_endian n v ≡ big_endian n w
+pub number-low : (n v w : ℕ) → v % 2 ^ (8 * n) ≡ w % 2 ^ (8 * n) → big_endian n v ≡ big_endian n w
 unfolding big_endian
 number-low zero v w e = refl
 number-low (suc n) v w e =
@@ -46,17 +48,31 @@ number-parts (suc m) n v first second p q =
     let here : v / 2 ^ (8 * (m + n)) ≡ first / 2 ^ (8 * m) = rw (d, p) (sym (shr-shr v (8 * n) (8 * m))) in
     rw (suc-add m n, here, number-parts m n v first second p q)
 
--- ---- put byte by byte
+-- ---- as the machine has them
 
-module _ (n v : ℕ) (before : List ℕ) (at : ℕ) (room : at + n ≤ length before) where
-  fits : at + length (big_endian n v) ≤ length before
-  fits = omega (arith, number-length n v)
+power_of_bytes : (n : ℕ) → 256 ^ n ≡ 2 ^ (8 * n)
+power_of_bytes zero = refl
+power_of_bytes (suc n) =
+    let e : 8 * suc n ≡ 8 * n + 8 = omega arith in
+    rw (e, pow-add 2 (8 * n) 8, pow-suc 256 n, power_of_bytes n)
 
-  pub number_none : Copied (big_endian n v) before at 0 before
-  number_none = copied_none (big_endian n v) before at fits
+byte_is : (n v : ℕ) → byte_at n v ≡ v / 2 ^ (8 * n) % 256
+byte_is zero v = omega arith
+byte_is (suc n) v = rw (power_of_bytes (suc n))
 
-  pub number_more : (i b : ℕ) (after : List ℕ) → i < n → b ≡ v / 2 ^ (8 * (n - 1 - i)) % 256 → Copied (big_endian n v) before at i after → Copied (big_endian n v) before at (i + 1) (set after (at + i) b)
-  number_more i b after h e c = copied_more (big_endian n v) before at fits i b 0 after (omega (arith, number-length n v)) (e ∙ sym (number-byte n v i h)) c
+-- n bytes of a machine number
+pub number-bytes : (n v : ℕ) → bytes_high_first n v ≡ big_endian n v
+unfolding big_endian
+number-bytes zero v = refl
+number-bytes (suc n) v = ap₂ ◌∷◌ (byte_is n v) (number-bytes n v)
 
-  pub number_all : (i : ℕ) (after : List ℕ) → n ≤ i → Copied (big_endian n v) before at i after → Put (big_endian n v) before at (at + i) after
-  number_all i after h c = copied_all (big_endian n v) before at fits i after (omega (arith, number-length n v)) c
+number-behind : (k n v : ℕ) → drop k (big_endian (k + n) v) ≡ big_endian n v
+unfolding big_endian
+number-behind zero n v = rw zero-add
+number-behind (suc k) n v = rw suc-add (number-behind k n v)
+
+-- the last n of m of them
+pub number-last : (m n v : ℕ) → n ≤ m → between (m - n) m (bytes_high_first m v) ≡ big_endian n v
+number-last m n v h =
+    let e : m ≡ (m - n) + n = omega arith in
+    rw (number-bytes m v) (take_all (m - (m - n)) (drop (m - n) (big_endian m v)) (omega (arith, length-drop (m - n) (big_endian m v), number-length m v)) ∙ ap (λ (x : ℕ). drop (m - n) (big_endian x v)) e ∙ number-behind (m - n) n v)

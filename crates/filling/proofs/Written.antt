@@ -10,7 +10,7 @@ use lib.Seq.{paste, paste-zero, paste-suc, take-length, length-paste, drop-paste
 use Rattle.filling.specs.Buffer.{written, Put, AtFront}
 
 -- a whole text pasted in
-written-paste : (s : List ℕ) (at : ℕ) (xs : List ℕ) → written s at xs ≡ paste s at xs (length xs)
+pub written-paste : (s : List ℕ) (at : ℕ) (xs : List ℕ) → written s at xs ≡ paste s at xs (length xs)
 unfolding written
 written-paste s at xs = rw (take-length, append_assoc)
 

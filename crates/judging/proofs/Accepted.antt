@@ -1,6 +1,6 @@
 -- What holds of the quantities of an accepted log: none passes the one before it, for each module and for the tool.
 -- Assumes nothing.
-use mathlib.Core.Path.{◌≡◌, refl, sym, ap, ◌∙◌}
+use mathlib.Core.Path.{◌≡◌, sym, ◌∙◌}
 use mathlib.Core.Bool.{Bool, true, false, cond, ◌||◌, not}
 use mathlib.Core.List.{List, [], ◌∷◌, ◌++◌}
 use Prim.Native.Nat.{ℕ, suc, ◌*◌, ◌≤◌, ◌<◌}
@@ -12,28 +12,28 @@ use Rattle.records.specs.declared.Standard.{Standard}
 use Rattle.records.specs.declared.UnitRecord.{UnitRecord}
 use Rattle.records.specs.Log.{Log}
 use Rattle.e79.specs.Quantities.{Ordered}
-use Rattle.rules.specs.declared.Verdict.{Verdict}
-use Rattle.rules.specs.declared.Refusal.{Refusal}
-use Rattle.rules.specs.declared.Verdict.TheVariants.{Accepted, Refused}
-use Rattle.rules.specs.Grounds.{ground, ◌then◌, first_of, in_turn}
+use Rattle.rules.specs.declared.Ground.TheVariants.{Spare, StrayModule, Outside, OverGood, TooFast, TooGreat}
+use Rattle.rules.specs.declared.LogList.TheVariants.{NoList, Units}
+use Rattle.std.specs.declared.result.Result.TheVariants.{Ok, Err}
+use Rattle.rules.specs.Grounds.{Verdict, refusal, ground, ◌then◌, first_of, in_turn}
 use Rattle.rules.specs.Theoretical.{in_force, time_of, credit, theoretical_time}
 use Rattle.rules.specs.RecordGrounds.{unit_ground, unit_grounds}
 use Rattle.rules.specs.Quantities.{time_in, uptime, actual_time, effective_time, sum_below, module_times, all_times, of_tool, tool_times}
 use Rattle.rules.specs.Verdict.{fast_ground, is_over, any_over, any_time_over, sum_grounds}
-use Rattle.rules.proofs.FirstGround.{then-left, then-right, refused-not, not-met, first_all}
+use Rattle.rules.proofs.FirstGround.{then-left, then-right, not-met, first_all}
 use Rattle.states.proofs.SixTimes.{state_time-le, six_times_lem}
-use Rattle.judging.specs.Working.{Grounded, Consistent, SumsTested}
+use Rattle.judging.specs.Working.{Grounded, Consistent}
 use Rattle.rules.proofs.SumLaws.{sum-le, sum-each}
 
 -- ---- effective units are among the actual ones
 
-effective-le : (period modules : ℕ) (ss : List Standard) (us : List UnitRecord) (i : ℕ) (u : UnitRecord) → unit_ground period modules ss us i u ≡ Accepted → u.effective ≤ u.actual
+effective-le : (period modules : ℕ) (ss : List Standard) (us : List UnitRecord) (i : ℕ) (u : UnitRecord) → unit_ground period modules ss us i u ≡ Ok tt → u.effective ≤ u.actual
 unfolding unit_ground
 effective-le period modules ss us i u e =
-    let a = then-right (ground 6 3 i (not (eqb u.spare 0))) _ e in
-    let b = then-right (ground 7 3 i (leb modules u.«module»)) _ a in
-    let c = then-right (ground 9 3 i (leb period u.time)) _ b in
-    ltb-false u.actual u.effective (not-met 14 3 i (ltb u.actual u.effective) (then-left (ground 14 3 i (ltb u.actual u.effective)) _ c))
+    let a = then-right (ground Spare Units i (not (eqb u.spare 0))) _ e in
+    let b = then-right (ground StrayModule Units i (leb modules u.«module»)) _ a in
+    let c = then-right (ground Outside Units i (leb period u.time)) _ b in
+    ltb-false u.actual u.effective (not-met OverGood Units i (ltb u.actual u.effective) (then-left (ground OverGood Units i (ltb u.actual u.effective)) _ c))
 
 credit-le : (ss : List Standard) (m : ℕ) (u : UnitRecord) → u.effective ≤ u.actual → credit (λ u. u.effective) ss m u ≤ credit (λ u. u.actual) ss m u
 unfolding credit
@@ -43,7 +43,7 @@ credit-le ss m u h = go (eqb u.«module» m)
     go true = mul-le-mul_right (time_of (in_force ss u.«module» u.recipe u.time)) h
     go false = le_refl 0
 
-theoretical-le : (period modules : ℕ) (ss : List Standard) (earlier : List UnitRecord) (i : ℕ) (us : List UnitRecord) (m : ℕ) → in_turn (unit_ground period modules ss) earlier i us ≡ Accepted
+theoretical-le : (period modules : ℕ) (ss : List Standard) (earlier : List UnitRecord) (i : ℕ) (us : List UnitRecord) (m : ℕ) → in_turn (unit_ground period modules ss) earlier i us ≡ Ok tt
     → theoretical_time (λ u. u.effective) ss us m ≤ theoretical_time (λ u. u.actual) ss us m
 unfolding in_turn theoretical_time
 theoretical-le period modules ss earlier i [] m e = le_refl 0
@@ -75,10 +75,10 @@ module _ (l : Log) (g : Grounded l) where
   unfolding time_in
   time_le k m = state_time-le l.states l.period m k
 
-  module _ (fast : first_of (fast_ground l) l.modules ≡ Accepted) where
+  module _ (fast : first_of (fast_ground l) l.modules ≡ Ok tt) where
     actual_production : (m : ℕ) → m < l.modules → actual_time l m ≤ time_in l 0 m
     unfolding fast_ground
-    actual_production m h = ltb-false (time_in l 0 m) (actual_time l m) (not-met 16 0 m (ltb (time_in l 0 m) (actual_time l m)) (first_all (fast_ground l) l.modules fast m h))
+    actual_production m h = ltb-false (time_in l 0 m) (actual_time l m) (not-met TooFast NoList m (ltb (time_in l 0 m) (actual_time l m)) (first_all (fast_ground l) l.modules fast m h))
 
     pub consistent : Consistent l
     consistent =
@@ -143,35 +143,8 @@ module _ (l : Log) (s : Consistent l) where
         state_within_lem 5,
       )
 
--- ---- the sums tested
-
-module _ (l : Log) (g : Grounded l) where
-  pub sums_fast : (v : Verdict) (x : Refusal) → v ≡ Refused x → v ≡ first_of (fast_ground l) l.modules → SumsTested l v
-  unfolding sum_grounds
-  sums_fast v x e f =
-      record {
-        answer = e ∙ sym (ap (λ (w : Verdict). w then ground 17 0 0 (any_over (of_tool l) || any_time_over (tool_times l))) (sym f ∙ e));
-        consistent = λ a. absurd (refused-not (sym e ∙ a));
-      }
-
-  module _ (fast : first_of (fast_ground l) l.modules ≡ Accepted) where
-    decided : sum_grounds l ≡ ground 17 0 0 (any_over (of_tool l) || any_time_over (tool_times l))
-    unfolding sum_grounds
-    decided = ap (λ (w : Verdict). w then ground 17 0 0 (any_over (of_tool l) || any_time_over (tool_times l))) fast
-
-    -- both tests for 17 fail
-    pub sums_good : SumsTested l Accepted
-    sums_good = record { answer = sym (decided ∙ ap (ground 17 0 0) (none_over l (consistent l g fast))); consistent = λ e. consistent l g fast }
-
-    -- neither can hold; the answer is held to 17, list 0 and place 0 all the same
-    pub sums_never : (b : Bool) → b ≡ true → (b ≡ true → any_over (of_tool l) || any_time_over (tool_times l) ≡ true) → (v : Verdict)
-        → v ≡ Refused (record { number = 17; list = 0; place = 0 })
-        → SumsTested l v
-    sums_never b e h v said = let z : true ≡ false = sym (h e) ∙ none_over l (consistent l g fast) in let q : ◌≡◌ {A = ℕ} 0 1 = cc in absurd (omega arith)
-
-pub left_over : (a b : Bool) → a ≡ true → a || b ≡ true
-left_over a b e = rw e
-
-pub right-over : (a b : Bool) → b ≡ true → a || b ≡ true
-right-over true b e = refl
-right-over false b e = e
+module _ (l : Log) (g : Grounded l) (fast : first_of (fast_ground l) l.modules ≡ Ok tt) where
+  -- neither test for 17 can hold; the answer is held to 17, list 0 and place 0 all the same
+  pub sums_never : (b : Bool) → b ≡ true → (b ≡ true → any_over (of_tool l) || any_time_over (tool_times l) ≡ true) → (v : Verdict) → v ≡ Err (refusal TooGreat NoList 0)
+      → (v ≡ sum_grounds l) × (v ≡ Ok tt → Consistent l)
+  sums_never b e h v said = let z : true ≡ false = sym (h e) ∙ none_over l (consistent l g fast) in let q : ◌≡◌ {A = ℕ} 0 1 = cc in absurd (omega arith)

@@ -10,7 +10,9 @@ use lib.Dec.{ltb, eqb}
 use lib.ListN.{length}
 use Rattle.records.specs.declared.Header.{Header}
 use Rattle.records.specs.Log.{header_of}
-use Rattle.rules.specs.declared.Verdict.TheVariants.{Accepted, Refused}
+use Rattle.std.specs.declared.result.Result.TheVariants.{Ok, Err}
+use Rattle.rules.specs.declared.Ground.TheVariants.{NoHeader, Period, Modules, Counts, Length}
+use Rattle.rules.specs.declared.LogList.TheVariants.{NoList}
 use Rattle.rules.specs.Verdict.{bad_period, bad_modules, bad_counts, bad_length, header_grounds}
 use Rattle.rules.proofs.Booleans.{or_left, or_right}
 
@@ -31,29 +33,29 @@ good-counts h e =
 -- ---- the header's grounds, one by one
 
 module _ (s : List ℕ) (h : Header) (eh : h ≡ header_of s) where
-  pub no_header : length s < 10 → Refused (record { number = 1; list = 0; place = 0 }) ≡ header_grounds s
+  pub no_header : length s < 10 → Err (record { ground = NoHeader; list = NoList; place = 0 }) ≡ header_grounds s
   unfolding header_grounds
   no_header l = rw (lt-ltb (length s) 10 l)
 
   module _ (l : 10 ≤ length s) where
-    pub at_period : bad_period h.period ≡ true → Refused (record { number = 2; list = 0; place = 0 }) ≡ header_grounds s
+    pub at_period : bad_period h.period ≡ true → Err (record { ground = Period; list = NoList; place = 0 }) ≡ header_grounds s
     unfolding header_grounds
     at_period p = rw (← eh, le-ltb (length s) 10 l, p)
 
     module _ (p : bad_period h.period ≡ false) where
-      pub at_modules : bad_modules h.modules ≡ true → Refused (record { number = 3; list = 0; place = 0 }) ≡ header_grounds s
+      pub at_modules : bad_modules h.modules ≡ true → Err (record { ground = Modules; list = NoList; place = 0 }) ≡ header_grounds s
       unfolding header_grounds
       at_modules m = rw (← eh, le-ltb (length s) 10 l, p, m)
 
       module _ (m : bad_modules h.modules ≡ false) where
-        pub at_counts : bad_counts h ≡ true → Refused (record { number = 4; list = 0; place = 0 }) ≡ header_grounds s
+        pub at_counts : bad_counts h ≡ true → Err (record { ground = Counts; list = NoList; place = 0 }) ≡ header_grounds s
         unfolding header_grounds
         at_counts c = rw (← eh, le-ltb (length s) 10 l, p, m, c)
 
-        pub at_length : bad_counts h ≡ false → bad_length (length s) h ≡ true → Refused (record { number = 5; list = 0; place = 0 }) ≡ header_grounds s
+        pub at_length : bad_counts h ≡ false → bad_length (length s) h ≡ true → Err (record { ground = Length; list = NoList; place = 0 }) ≡ header_grounds s
         unfolding header_grounds
         at_length c n = rw (← eh, le-ltb (length s) 10 l, p, m, c, n)
 
-        pub all_good : bad_counts h ≡ false → bad_length (length s) h ≡ false → Accepted ≡ header_grounds s
+        pub all_good : bad_counts h ≡ false → bad_length (length s) h ≡ false → Ok tt ≡ header_grounds s
         unfolding header_grounds
         all_good c n = rw (← eh, le-ltb (length s) 10 l, p, m, c, n)

@@ -1,14 +1,11 @@
 -- What the working arrays hold of a log: the totals T, six to a module, the uptimes U, and the theoretical times A for actual and E for effective units.
 -- Definitions only.
 use Rattle.std.specs.Prelude.{◌≡◌, List, ℕ, ◌+◌, ◌*◌, ◌≤◌, ◌<◌, get_or}
-use Rattle.records.specs.Log.{Log, decode}
+use Rattle.records.specs.Log.{Log}
 use Rattle.e79.specs.Quantities.{Ordered}
-use Rattle.rules.specs.declared.Verdict.{Verdict}
-use Rattle.rules.specs.declared.Verdict.TheVariants.{Accepted}
+use Rattle.std.specs.declared.result.Result.TheVariants.{Ok}
 use Rattle.rules.specs.Quantities.{time_in, uptime, actual_time, effective_time, module_times, all_times, of_module}
 use Rattle.rules.specs.RecordGrounds.{state_grounds, unit_grounds}
-use Rattle.rules.specs.Verdict.{sum_grounds, verdict}
-use Rattle.judging.specs.declared.Judgement.{Judgement}
 
 pub record WorkingTotals (l : Log) (T U A E : List ℕ) : Type 0 where
   pub times : (m k : ℕ) → m < l.modules → k < 6 → get_or T (6 * m + k) 0 ≡ time_in l k m
@@ -22,8 +19,8 @@ pub record Grounded (l : Log) : Type 0 where
   pub few : l.modules ≤ 64
   pub begun : 0 < l.period
   pub short : l.period ≤ 31622400000
-  pub states : state_grounds l.period l.modules l.states ≡ Accepted
-  pub units : unit_grounds l.period l.modules l.standards l.units ≡ Accepted
+  pub states : state_grounds l.period l.modules l.states ≡ Ok tt
+  pub units : unit_grounds l.period l.modules l.standards l.units ≡ Ok tt
 
 -- what holds of it once its modules' speeds are too
 pub record Consistent (l : Log) : Type 0 where
@@ -33,20 +30,3 @@ pub record Consistent (l : Log) : Type 0 where
   pub each : (m : ℕ) → m < l.modules → Ordered (of_module l m)
   pub times : (k m : ℕ) → m < l.modules → time_in l k m ≤ l.period
   pub whole : (m : ℕ) → m < l.modules → all_times (module_times l m) ≡ l.period
-
--- the sums tested
-pub record SumsTested (l : Log) (r : Verdict) : Type 0 where
-  pub answer : r ≡ sum_grounds l
-  pub consistent : r ≡ Accepted → Consistent l
-
--- the answer to a log, and what the arrays hold where it is accepted
-pub record JudgedInto (s : List ℕ) (r : Verdict) (T U A E : List ℕ) : Type 0 where
-  pub answer : r ≡ verdict s
-  pub held : r ≡ Accepted → WorkingTotals (decode s) T U A E
-  pub consistent : r ≡ Accepted → Consistent (decode s)
-
--- the same of a log judged from nothing, with what its header says
-pub record Judged (s : List ℕ) (r : Judgement) : Type 0 where
-  pub judged : JudgedInto s r.verdict r.totals r.uptime r.actual r.effective
-  pub period : r.period ≡ (decode s).period
-  pub modules : r.modules ≡ (decode s).modules

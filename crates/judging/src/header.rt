@@ -3,9 +3,8 @@ ghost use Rattle.std.specs.Prelude.{◌≡◌, false};
 ghost use Rattle.records.specs.Log.{header_of};
 ghost use Rattle.rules.specs.Verdict.{bad_period, bad_modules, bad_counts, bad_length, header_grounds};
 
-use crate::refused;
 use records::Header;
-use rules::Verdict;
+use rules::{Ground, LogList, Refusal};
 
 fn bad_period(period: u64) -> bool
     ensures { result ≡ bad_period period }
@@ -13,6 +12,7 @@ fn bad_period(period: u64) -> bool
     period == 0 || 31622400000 < period
 }
 
+// A twin of `bad_period` in shape alone: each states its own ground with its own bounds, and one function over a type and a bound would be no plainer.
 fn bad_modules(modules: usize) -> bool
     ensures { result ≡ bad_modules modules }
 {
@@ -33,24 +33,14 @@ fn bad_length(length: usize, h: Header) -> bool
 }
 
 // 1 to 5, by number.
-pub fn test_header(log: &[u8], h: Header) -> Verdict
+#[tactic(auto, unfolding(rules::specs::Verdict::header_grounds))]
+pub fn test_header(log: &[u8], h: Header) -> Result<(), Refusal>
     requires { h ≡ header_of log.now }
     ensures { result ≡ header_grounds log.now }
 {
-    if log.len() < 10 {
-        return refused(1, 0);
-    }
-    if bad_period(h.period) {
-        return refused(2, 0);
-    }
-    if bad_modules(h.modules) {
-        return refused(3, 0);
-    }
-    if bad_counts(h) {
-        return refused(4, 0);
-    }
-    if bad_length(log.len(), h) {
-        return refused(5, 0);
-    }
-    Verdict::Accepted
+    Ground::NoHeader.refuses(log.len() < 10, LogList::NoList, 0)?;
+    Ground::Period.refuses(bad_period(h.period), LogList::NoList, 0)?;
+    Ground::Modules.refuses(bad_modules(h.modules), LogList::NoList, 0)?;
+    Ground::Counts.refuses(bad_counts(h), LogList::NoList, 0)?;
+    Ground::Length.refuses(bad_length(log.len(), h), LogList::NoList, 0)
 }

@@ -1,4 +1,4 @@
-// The state times and the quantities of a module and of the tool, out of the working totals.
+// The working totals of a log, and the state times and the quantities of a module and of the tool out of them.
 ghost use Rattle.std.specs.Prelude.{◌≡◌, ℕ, ◌+◌, ◌*◌, ◌<◌, ◌≤◌, get_or};
 ghost use Rattle.records.specs.Log.{decode};
 ghost use Rattle.rules.specs.Quantities.{sum_below, module_times, tool_times, of_module, of_tool};
@@ -7,55 +7,25 @@ ghost use Rattle.judging.specs.Working.{Consistent, WorkingTotals};
 use e79::Quantities;
 use rules::StateTimes;
 
-// The six state times of module m.
-pub fn times_of<'a>(
-    log: &[u8],
-    m: usize,
-    totals: &'a [u64; 384],
-    uptime: &'a [u64; 64],
-    actual: &'a [u64; 64],
-    effective: &'a [u64; 64],
-) -> StateTimes
-    requires m_bound { (m < (decode log.now).modules) × (m < 64) }
-    requires working_totals { WorkingTotals (decode log.now) totals.now uptime.now actual.now effective.now }
-    ensures { result ≡ module_times (decode log.now) m }
-{
-    let at = 6 * m;
-    StateTimes {
-        productive: totals[at],
-        standby: totals[at + 1],
-        engineering: totals[at + 2],
-        scheduled: totals[at + 3],
-        unscheduled: totals[at + 4],
-        nonscheduled: totals[at + 5],
-    }
+// What its header says of period and modules, and the working totals: for each module six state times, the uptime, and the theoretical times for actual
+// and for effective units. Arrays lent and summed by the module's number, and no array of structs: the pass over the states adds to the first alone, at six
+// times module plus state, as document 01 has it. Period and modules are the header's, which `records::read_header` gives for every slice. That the log is
+// consistent stands in three contracts: totals are made before the speeds are tested, and an `Account` owns it.
+#[derive(Clone, Copy)]
+pub struct Totals<'a> {
+    pub log: &'a [u8],
+    pub period: u64,
+    pub modules: usize,
+    pub totals: [u64; 384],
+    pub uptime: [u64; 64],
+    pub actual: [u64; 64],
+    pub effective: [u64; 64],
+    pub ghost period_value: { period ≡ (decode log.now).period },
+    pub ghost modules_value: { modules ≡ (decode log.now).modules },
+    pub ghost working_totals: { WorkingTotals (decode log.now) totals uptime actual effective },
 }
 
-// The five quantities of module m.
-pub fn quantities_of<'a>(
-    log: &[u8],
-    period: u64,
-    m: usize,
-    totals: &'a [u64; 384],
-    uptime: &'a [u64; 64],
-    actual: &'a [u64; 64],
-    effective: &'a [u64; 64],
-) -> Quantities
-    requires m_bound { (m < (decode log.now).modules) × (m < 64) × (period ≡ (decode log.now).period) }
-    requires working_totals { WorkingTotals (decode log.now) totals.now uptime.now actual.now effective.now }
-    ensures { result ≡ of_module (decode log.now) m }
-{
-    let at = 6 * m;
-    Quantities {
-        total: period,
-        uptime: uptime[m],
-        production: totals[at],
-        actual: actual[m],
-        effective: effective[m],
-    }
-}
-
-// A quantity summed over the modules.
+// A quantity summed over the modules. By number: `values[..modules].iter().sum()` was tried, and that `modules` is within the array did not close.
 fn sum_modules(values: &[u64; 64], modules: usize) -> u64
     requires { (modules ≤ 64) × ((m : ℕ) → m < modules → get_or values.now m 0 ≤ 31622400000) }
     ensures { result ≡ sum_below (λ m. get_or values.now m 0) modules }
@@ -67,62 +37,78 @@ fn sum_modules(values: &[u64; 64], modules: usize) -> u64
     sum
 }
 
-// The time in state k summed over the modules.
-fn sum_state(totals: &[u64; 384], modules: usize, k: usize) -> u64
-    requires { (modules ≤ 64) × (k < 6) × ((m : ℕ) → m < modules → get_or totals.now (6 * m + k) 0 ≤ 31622400000) }
-    ensures { result ≡ sum_below (λ m. get_or totals.now (6 * m + k) 0) modules }
-{
-    let mut sum: u64 = 0;
-    for m in 0..modules {
-        sum += totals[6 * m + k];
+impl<'a> Totals<'a> {
+    // The six state times of module m.
+    pub fn module_times(&self, m: usize) -> StateTimes
+        requires { (m < (decode self.now.log.now).modules) × (m < 64) }
+        ensures { result ≡ module_times (decode self.now.log.now) m }
+    {
+        let at = 6 * m;
+        StateTimes {
+            productive: self.totals[at],
+            standby: self.totals[at + 1],
+            engineering: self.totals[at + 2],
+            scheduled: self.totals[at + 3],
+            unscheduled: self.totals[at + 4],
+            nonscheduled: self.totals[at + 5],
+        }
     }
-    sum
-}
 
-// The tool's six state times.
-pub fn tool_times<'a>(
-    log: &[u8],
-    modules: usize,
-    totals: &'a [u64; 384],
-    uptime: &'a [u64; 64],
-    actual: &'a [u64; 64],
-    effective: &'a [u64; 64],
-) -> StateTimes
-    requires modules_value { modules ≡ (decode log.now).modules }
-    requires working_totals { WorkingTotals (decode log.now) totals.now uptime.now actual.now effective.now }
-    requires consistent { Consistent (decode log.now) }
-    ensures { result ≡ tool_times (decode log.now) }
-{
-    StateTimes {
-        productive: sum_state(totals, modules, 0),
-        standby: sum_state(totals, modules, 1),
-        engineering: sum_state(totals, modules, 2),
-        scheduled: sum_state(totals, modules, 3),
-        unscheduled: sum_state(totals, modules, 4),
-        nonscheduled: sum_state(totals, modules, 5),
+    // The five quantities of module m.
+    pub fn module_quantities(&self, m: usize) -> Quantities
+        requires { (m < (decode self.now.log.now).modules) × (m < 64) }
+        ensures { result ≡ of_module (decode self.now.log.now) m }
+    {
+        let at = 6 * m;
+        Quantities {
+            total: self.period,
+            uptime: self.uptime[m],
+            production: self.totals[at],
+            actual: self.actual[m],
+            effective: self.effective[m],
+        }
     }
-}
 
-// The tool's five quantities.
-pub fn tool_sums<'a>(
-    log: &[u8],
-    period: u64,
-    modules: usize,
-    totals: &'a [u64; 384],
-    uptime: &'a [u64; 64],
-    actual: &'a [u64; 64],
-    effective: &'a [u64; 64],
-) -> Quantities
-    requires period_value { (period ≡ (decode log.now).period) × (modules ≡ (decode log.now).modules) }
-    requires working_totals { WorkingTotals (decode log.now) totals.now uptime.now actual.now effective.now }
-    requires consistent { Consistent (decode log.now) }
-    ensures { result ≡ of_tool (decode log.now) }
-{
-    Quantities {
-        total: period * modules as u64,
-        uptime: sum_modules(uptime, modules),
-        production: sum_state(totals, modules, 0),
-        actual: sum_modules(actual, modules),
-        effective: sum_modules(effective, modules),
+    // The time in state k summed over the modules. A number, as in the array: the enum of states is private to `states`.
+    fn sum_state(&self, k: usize) -> u64
+        requires state { k < 6 }
+        requires consistent { Consistent (decode self.now.log.now) }
+        ensures { result ≡ sum_below (λ m. get_or self.now.totals (6 * m + k) 0) self.now.modules }
+    {
+        let mut sum: u64 = 0;
+        // By index: a module's six totals stand side by side.
+        for m in 0..self.modules {
+            sum += self.totals[6 * m + k];
+        }
+        sum
+    }
+
+    // The tool's six state times.
+    pub fn tool_times(&self) -> StateTimes
+        requires { Consistent (decode self.now.log.now) }
+        ensures { result ≡ tool_times (decode self.now.log.now) }
+    {
+        StateTimes {
+            productive: self.sum_state(0),
+            standby: self.sum_state(1),
+            engineering: self.sum_state(2),
+            scheduled: self.sum_state(3),
+            unscheduled: self.sum_state(4),
+            nonscheduled: self.sum_state(5),
+        }
+    }
+
+    // The tool's five quantities.
+    pub fn tool_quantities(&self) -> Quantities
+        requires { Consistent (decode self.now.log.now) }
+        ensures { result ≡ of_tool (decode self.now.log.now) }
+    {
+        Quantities {
+            total: self.period * self.modules as u64,
+            uptime: sum_modules(&self.uptime, self.modules),
+            production: self.sum_state(0),
+            actual: sum_modules(&self.actual, self.modules),
+            effective: sum_modules(&self.effective, self.modules),
+        }
     }
 }

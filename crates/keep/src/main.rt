@@ -2,15 +2,14 @@
 // `saving` is tried with.
 #![tactic(auto)]
 
-use saving::Replaced;
+use reading::ENAMETOOLONG;
+use saving::ReplaceError;
 use std::env::FillError;
 use std::io;
 use std::rt::Env;
 
-// The error numbers of an argument that is missing, and of one that is too long.
+// The error number of an argument that is missing.
 const EINVAL: i32 = 22;
-
-const ENAMETOOLONG: i32 = 36;
 
 fn refusal(why: FillError) -> io::Error {
     io::Error::from_raw_os_error(match why {
@@ -19,7 +18,7 @@ fn refusal(why: FillError) -> io::Error {
     })
 }
 
-// The line for what the system refused, and why.
+// The line for what the system refused, and why. Not `saying::fail`, whose lines begin with the name of another program.
 fn fail(rt: HostRuntime, what: &[u8], why: &io::Error) {
     let mut space = [0u8; 256];
     let err = rt.stderr();
@@ -55,9 +54,9 @@ fn keep(rt: HostRuntime, path: &[u8]) -> io::Result<()> {
     let mut input = [0u8; 65536];
     let n = reading::read_full(&mut rt.stdin(), &mut input)?;
     match saving::replace(&rt, path, &input[..n]) {
-        Replaced::Done => {}
-        Replaced::NotWritten(why) => blame_new(rt, path, &why),
-        Replaced::NotRenamed(why) => fail(rt, path, &why),
+        Ok(()) => {}
+        Err(ReplaceError::NotWritten(why)) => blame_new(rt, path, &why),
+        Err(ReplaceError::NotRenamed(why)) => fail(rt, path, &why),
     }
     show(rt, path)
 }

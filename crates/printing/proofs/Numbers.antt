@@ -21,6 +21,9 @@ pub numbers-length : (vs : List ℕ) → length (numbers vs) ≡ length (joined 
 unfolding numbers
 numbers-length vs = length-append (joined (nth vs) (length vs)) (ascii "\n")
 
+pub numbers_room : (at n : ℕ) (vs : List ℕ) → at + length (numbers vs) ≤ n → at + length (joined (nth vs) (length vs)) ≤ n
+numbers_room at n vs h = omega (arith, numbers-length vs)
+
 -- each number is below a bound
 abbrev pub Below : ℕ → List ℕ → Type 0
 Below b [] = Unit {0}

@@ -7,9 +7,9 @@ use lib.Dec.{lit≤}
 use lib.ListN.{length, length-append}
 use Rattle.records.specs.Log.{Log}
 use Rattle.e79.specs.declared.Quantities.{Quantities}
-use Rattle.e79.specs.Quantities.{Ordered}
+use Rattle.e79.specs.Quantities.{Ordered, quantities_of}
 use Rattle.rules.specs.declared.StateTimes.{StateTimes}
-use Rattle.rules.specs.Quantities.{sum_below, time_in, module_times, tool_times, of_module, of_tool, times_of, quantities_of}
+use Rattle.rules.specs.Quantities.{sum_below, time_in, module_times, tool_times, of_module, of_tool, times_of}
 use Rattle.judging.specs.Working.{Consistent}
 use Rattle.rules.proofs.SumLaws.{sum-le}
 use Rattle.judging.proofs.Accepted.{tool_total, tool_ordered}
@@ -20,14 +20,6 @@ use Rattle.printing.specs.declared.Table.{Table}
 use Rattle.printing.specs.declared.Table.TheVariants.{Times, Quantities as OfQuantities}
 use Rattle.printing.proofs.Numbers.{Below, numbers-longest}
 use Rattle.printing.specs.Tables.{numbers, heading_of, told, line_in, tool_in, table_text}
-
--- ---- the heading
-
-pub times-heading : (t : Table) → t ≡ Times → heading_of Times ≡ heading_of t
-times-heading t e = ap heading_of (sym e)
-
-pub quantities-heading : (t : Table) → t ≡ OfQuantities → heading_of OfQuantities ≡ heading_of t
-quantities-heading t e = ap heading_of (sym e)
 
 -- ---- a module's line and the tool's
 

@@ -2,8 +2,9 @@
 use Rattle.std.specs.Prelude.{List, ◌++◌, ℕ, length, get_or}
 use Rattle.records.specs.Log.{Log}
 use Rattle.e79.specs.declared.Quantities.{Quantities}
+use Rattle.e79.specs.Quantities.{quantities_of}
 use Rattle.rules.specs.declared.StateTimes.{StateTimes}
-use Rattle.rules.specs.Quantities.{module_times, tool_times, of_module, of_tool, times_of, quantities_of}
+use Rattle.rules.specs.Quantities.{module_times, tool_times, of_module, of_tool, times_of}
 use Rattle.report.specs.Text.{ascii}
 use Rattle.report.specs.Report.{decimal, short, tool, joined, table_of}
 use Rattle.printing.specs.declared.Table.{Table}

@@ -1,7 +1,7 @@
 // A log, or its benchmarks, read from the file that an argument names, or from standard input. What is said of a log here holds of both.
 #![tactic(auto)]
 
-ghost use Rattle.std.specs.Prelude.{◌≡◌, ◌≤◌, length, IfOk, IsUtf8};
+ghost use Rattle.std.specs.Prelude.{◌≤◌, length, IfOk, IfSome, IsUtf8};
 ghost use Rattle.io.specs.Counts.{IsPrefixLen};
 
 use std::env::FillError;
@@ -11,38 +11,20 @@ use std::io::{ErrorKind, Read};
 use std::rt::{Env, Files};
 
 // The error number of a name that is longer than the system takes.
-const ENAMETOOLONG: i32 = 36;
+pub const ENAMETOOLONG: i32 = 36;
 
-// What came of it: whether the log was read, how many bytes its name takes at the front of one array, and the log at the front of the other.
+const STANDARD_INPUT: &[u8] = b"standard input";
+
+// The bytes of a log, and its name, which fits a line of `saying`.
 #[derive(Clone, Copy)]
-pub struct Named {
-    pub is_read: bool,
-    pub name: usize,
-    pub size: usize,
+pub struct Named<'a> {
+    pub name: &'a [u8],
+    pub bytes: &'a [u8],
+    pub ghost short: { length name.now ≤ 4096 },
 }
 
-// What came of it, and why the log was not read, if it was not.
-#[derive(Drop)]
-struct Tried {
-    named: Named,
-    why: Option<io::Error>,
-}
-
-fn not_read(name: usize, why: io::Error) -> Tried
-    ensures name_value { result.named.name ≡ name }
-    ensures size_value { result.named.size ≡ 0 }
-{
-    Tried {
-        named: Named {
-            is_read: false,
-            name,
-            size: 0,
-        },
-        why: Some(why),
-    }
-}
-
-// Reads until the source ends or the array is full, and answers how many bytes it put at the front.
+// Reads until the source ends or the array is full, and answers how many bytes it put at the front. A length and no slice of what is left: the caller
+// cuts its array by it, and `read` tells a length too.
 pub fn read_full<R: Read>(source: &mut R, input: &mut [u8]) -> io::Result<usize>
     ensures { IfOk result (λ n. IsPrefixLen n input.new) }
 {
@@ -57,32 +39,12 @@ pub fn read_full<R: Read>(source: &mut R, input: &mut [u8]) -> io::Result<usize>
     Ok(done)
 }
 
-// Reads an open file until it ends or the array is full.
-fn read_open<R: Read>(source: &mut R, name: usize, input: &mut [u8]) -> Tried
-    ensures name_value { result.named.name ≡ name }
-    ensures prefix_len { IsPrefixLen result.named.size input.new }
+// The bytes that were read of a source, at most as many as the array has.
+fn read_open<'a, R: Read>(source: &mut R, input: &'a mut [u8]) -> io::Result<&'a [u8]>
+    ensures { IfOk result (λ bytes. length bytes.now ≤ length input.old) }
 {
-    match read_full(source, input) {
-        Ok(got) => Tried {
-            named: Named {
-                is_read: true,
-                name,
-                size: got,
-            },
-            why: None,
-        },
-        Err(why) => not_read(name, why),
-    }
-}
-
-// Standard input, by that name.
-fn read_input(rt: &impl Input, name: &mut [u8], input: &mut [u8]) -> Tried
-    requires { 14 ≤ length name.old }
-    ensures prefix_len { IsPrefixLen result.named.name name.new }
-    ensures prefix_len_2 { IsPrefixLen result.named.size input.new }
-{
-    let n = filling::put_text(name, 0, b"standard input");
-    read_open(&mut rt.reader(), n, input)
+    let n = read_full(source, input)?;
+    Ok(&input[..n])
 }
 
 // Opens the file of a name. std knows a file by a name of UTF-8 alone: no other is opened.
@@ -96,57 +58,51 @@ pub fn open<R: Files>(rt: &R, name: &[u8]) -> io::Result<R::File>
 }
 
 // The file of a name.
-fn read_file(rt: &impl Files, name: &[u8], input: &mut [u8]) -> Tried
-    ensures name_value { result.named.name ≡ length name.now }
-    ensures prefix_len { IsPrefixLen result.named.size input.new }
+fn read_file<'a>(rt: &impl Files, name: &[u8], input: &'a mut [u8]) -> io::Result<&'a [u8]>
+    ensures { IfOk result (λ bytes. length bytes.now ≤ length input.old) }
 {
-    match open(rt, name) {
-        Ok(mut file) => read_open(&mut file, name.len(), input),
-        Err(why) => not_read(name.len(), why),
-    }
+    let mut file = open(rt, name)?;
+    read_open(&mut file, input)
 }
 
-// The log that argument i names; left out, or `-`, it is standard input.
-fn read_argument(
+// The name of the log that argument i names, and the log; left out, or `-`, it is standard input.
+fn read_argument<'a>(
     rt: &(impl Files + Env + Input),
     i: usize,
-    name: &mut [u8],
-    input: &mut [u8],
-) -> Tried
-    requires { 14 ≤ length name.old }
-    ensures prefix_len { IsPrefixLen result.named.name name.new }
-    ensures prefix_len_2 { IsPrefixLen result.named.size input.new }
+    name: &'a mut [u8],
+    input: &'a mut [u8],
+) -> (&'a [u8], io::Result<&'a [u8]>)
+    requires { length name.old ≤ 4096 }
+    ensures short { length result.0.now ≤ 4096 }
+    ensures within { IfOk result.1 (λ bytes. length bytes.now ≤ length input.old) }
 {
     match rt.arg(i, name) {
-        Err(FillError::NotPresent) => read_input(rt, name, input),
-        Err(FillError::TooLong) => {
-            not_read(name.len(), io::Error::from_raw_os_error(ENAMETOOLONG))
-        }
-        Ok(n) => {
-            if check::same(&name[..n], b"-") {
-                read_input(rt, name, input)
-            } else {
-                read_file(rt, &name[..n], input)
-            }
-        }
+        Err(FillError::NotPresent) => (STANDARD_INPUT, read_open(&mut rt.reader(), input)),
+        Err(FillError::TooLong) => (name, Err(io::Error::from_raw_os_error(ENAMETOOLONG))),
+        Ok(n) => match &name[..n] {
+            b"-" => (STANDARD_INPUT, read_open(&mut rt.reader(), input)),
+            name => (name, read_file(rt, name, input)),
+        },
     }
 }
 
 // The same. Where the log cannot be read it says why, on standard error.
-pub fn read_log(
+pub fn read_log<'a>(
     rt: &(impl Files + Env + Input),
     err: &impl Print,
     i: usize,
-    name: &mut [u8],
-    input: &mut [u8],
-) -> Named
-    requires { (14 ≤ length name.old) × (length name.old ≤ 4096) }
-    ensures prefix_len { IsPrefixLen result.name name.new }
-    ensures prefix_len_2 { IsPrefixLen result.size input.new }
+    name: &'a mut [u8],
+    input: &'a mut [u8],
+) -> Option<Named<'a>>
+    requires { length name.old ≤ 4096 }
+    ensures { IfSome result (λ named. length named.bytes.now ≤ length input.old) }
 {
-    let tried = read_argument(rt, i, name, input);
-    if let Some(why) = tried.why {
-        saying::fail(err, &name[..tried.named.name], &why);
+    let (name, read) = read_argument(rt, i, name, input);
+    match read {
+        Ok(bytes) => Some(Named { name, bytes }),
+        Err(why) => {
+            saying::fail(err, name, &why);
+            None
+        }
     }
-    tried.named
 }

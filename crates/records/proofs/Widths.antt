@@ -3,17 +3,25 @@
 use mathlib.Core.Path.{◌≡◌, sym, subst}
 use mathlib.Core.List.{List, [], ◌∷◌, ◌++◌}
 use Prim.Native.Nat.{ℕ, zero, suc, ◌+◌, ◌*◌, ◌^◌, ◌<◌}
+use native.Mathlib.Omega.{arith}
 use Rattle.bits.specs.Put.{Slot, Fit}
 use Rattle.bits.proofs.Fields.{field_lt}
 use Rattle.records.specs.Fields.{header_from, state_from, standard_from, unit_from}
 use Rattle.records.specs.declared.Header.{Header}
 use Rattle.records.specs.Log.{header_of, state_at, standard_at, unit_at, up_to, decode}
 use Rattle.records.specs.Encode.{header_slots, state_slots, standard_slots, unit_slots, header_for, AllFit, LogFits}
+use Rattle.records.specs.Whole.{units_end}
 use Rattle.records.proofs.UpTo.{length_up_to}
 
 header-fits : (s : List ℕ) (p : ℕ) → Fit (header_slots (header_from s p))
 unfolding header_from
 header-fits s p = (field_lt s p 35, (field_lt s (p + 35) 7, (field_lt s (p + 42) 14, (field_lt s (p + 56) 11, (field_lt s (p + 67) 13, tt)))))
+
+-- a log of the length that its header gives is short
+pub whole-short : (s : List ℕ) (h : Header) → h ≡ header_of s → units_end h < 2 ^ 32
+whole-short s h own =
+    let fit : Fit (header_slots h) = subst (λ (x : Header). Fit (header_slots x)) (sym own) (header-fits s 0) in
+    omega (arith, fit.1.1.0, fit.1.1.1.0, fit.1.1.1.1.0)
 
 pub state-fits : (s : List ℕ) (p : ℕ) → Fit (state_slots (state_from s p))
 unfolding state_from

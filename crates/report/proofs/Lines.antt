@@ -12,8 +12,7 @@ use lib.Dec.{eqb}
 use lib.ListN.{length, take}
 use lib.Seq.{take-append_seam}
 use Rattle.e79.specs.declared.Quantities.{Quantities}
-use Rattle.e79.specs.declared.Printed.{Printed}
-use Rattle.e79.specs.declared.Printed.TheVariants.{Figure, NoBase}
+use Rattle.std.specs.Prelude.{Option, Some, None}
 use Rattle.report.specs.Text.{ascii}
 use Rattle.report.proofs.Decimals.{decimal-below, decimal-more}
 use Rattle.report.specs.Lines.{ends, Line, Lines, none, more, LastLine}
@@ -62,10 +61,10 @@ decimal_in_lem (suc k) n h =
 pub decimal-inside : (n : ℕ) → ends (decimal n) ≡ 0
 decimal-inside n = decimal_in_lem n n (le_refl n)
 
-shown-inside : (p : Printed) → ends (shown p) ≡ 0
+shown-inside : (p : Option ℕ) → ends (shown p) ≡ 0
 unfolding ends shown places
-shown-inside (Figure p) = simp digit-other
-shown-inside NoBase = refl
+shown-inside (Some p) = simp digit-other
+shown-inside None = refl
 
 figure-inside : (n d : ℕ) → ends (figure n d) ≡ 0
 unfolding figure ends

@@ -52,6 +52,10 @@ module _ (line : ℕ → List ℕ) (n : ℕ) (s : List ℕ) (at : ℕ) (room : a
   pub lined_more : (m r q : ℕ) (t u : List ℕ) → m < n → Lined line n m s at r t → Put (line m) t r q u → Lined line n (m + 1) s at q u
   lined_more m r q t u h l p = record { within = omega arith; put = read_as (sym (lines_more line m)) ((then) l.put p) }
 
+-- all were put
+pub lined_all : {line : ℕ → List ℕ} {n m : ℕ} {s : List ℕ} {at r : ℕ} {t : List ℕ} → Lined line n m s at r t → n ≤ m → Put (joined line n) s at r t
+lined_all {line} {n} {m} l h = let e : m ≡ n = omega (arith, l.within) in rw e at l.put
+
 -- the three parts of a table
 module _ (head : List ℕ) (line : ℕ → List ℕ) (n : ℕ) (last : List ℕ) where
   pub table_length : length (table_of head line n last) ≡ length head + length (joined line n) + length last

@@ -1,10 +1,9 @@
 -- The lines of the report and the line for a refused log, as bytes. Definitions only.
-use Rattle.std.specs.Prelude.{◌≡◌, cond, List, [], ◌∷◌, ◌++◌, ℕ, zero, suc, ◌+◌, ◌/◌, ◌%◌, ◌≤◌, ◌<◌, ltb, length}
+use Rattle.std.specs.Prelude.{◌≡◌, cond, Option, Some, None, List, [], ◌∷◌, ◌++◌, ℕ, zero, suc, ◌+◌, ◌/◌, ◌%◌, ◌≤◌, ◌<◌, ltb, length}
 use Rattle.e79.specs.declared.Quantities.{Quantities}
-use Rattle.e79.specs.declared.Printed.{Printed}
-use Rattle.e79.specs.declared.Printed.TheVariants.{Figure, NoBase}
 use Rattle.e79.specs.Printed.{printed_of}
 use Rattle.rules.specs.declared.Refusal.{Refusal}
+use Rattle.rules.specs.Names.{number_of, list_number}
 use Rattle.report.specs.Text.{ascii}
 
 -- the last decimal digit of a number, as a byte
@@ -29,9 +28,9 @@ unfoldable pub places : ℕ → List ℕ
 places p = digit (p / 10000) ∷ 46 ∷ digit (p / 1000) ∷ digit (p / 100) ∷ digit (p / 10) ∷ digit p ∷ []
 
 -- a printed figure, `-` where there is no base
-unfoldable pub shown : Printed → List ℕ
-shown (Figure p) = places p
-shown NoBase = ascii "-"
+unfoldable pub shown : Option ℕ → List ℕ
+shown (Some p) = places p
+shown None = ascii "-"
 
 -- a space, which parts the fields, and the printed figure of a numerator and a denominator
 unfoldable pub figure : ℕ → ℕ → List ℕ
@@ -81,10 +80,15 @@ unfoldable pub report_of : ℕ → (ℕ → Quantities) → Quantities → List 
 unfolding table_of
 report_of n each whole = table_of heading (λ m. module_line m (each m)) n (tool_line whole)
 
--- what a refused log prints: `refused N list L at P`, with that number, list and place
+-- the line of a refusal by its numbers: `refused N list L at P`
+unfoldable pub refused_at : ℕ → ℕ → ℕ → List ℕ
+refused_at number list place =
+    (ascii "refused " ++ decimal number) ++ (ascii " list " ++ decimal list) ++ (ascii " at " ++ decimal place) ++ ascii "\n"
+
+-- what a refused log prints, with its number, list and place
 unfoldable pub refused_line : Refusal → List ℕ
-refused_line x =
-    (ascii "refused " ++ decimal x.number) ++ (ascii " list " ++ decimal x.list) ++ (ascii " at " ++ decimal x.place) ++ ascii "\n"
+unfolding refused_at
+refused_line x = refused_at (number_of x.ground) (list_number x.list) x.place
 
 -- the length of a text, which is at most so many bytes
 pub record LengthOf (text : List ℕ) (most r : ℕ) : Type 0 where

@@ -1,16 +1,17 @@
 // The lines of the report and the line for a refused log, written from whole numbers into a buffer that the caller lends. Nothing here knows a log.
 //
-// A call that writes answers the place behind what it wrote. Those that write into a slice have a `requires`, so they are not for a buyer to link: they are
-// called where room and order are shown.
+// A buffer and a place: see `filling`. A call that writes answers the place behind what it wrote. Those that write into a slice have a
+// `requires`, so they are not for a buyer to link: they are called where room and order are shown. `Ordered q` stands in three contracts: an
+// account's quantities are ordered, and a type that says so would be a second `Quantities`.
 #![tactic(auto)]
 
 ghost use Rattle.std.specs.Prelude.{◌≡◌, ◌++◌, ◌+◌, ◌^◌, ◌≤◌, ◌<◌, length};
 ghost use Rattle.e79.specs.Quantities.{Ordered, Portion};
 ghost use Rattle.filling.specs.Buffer.{Put, AtFront};
-ghost use Rattle.report.specs.Report.{decimal, places, figure, figures, heading, module_line, tool_line, LengthOf, FigureLength, ModuleLength, refused_line};
+ghost use Rattle.report.specs.Report.{decimal, places, figure, figures, heading, module_line, tool_line, LengthOf, FigureLength, ModuleLength, refused_at, refused_line};
 ghost use Rattle.report.specs.Report.{digit as Report·digit};
 
-use e79::{Printed, Quantities};
+use e79::Quantities;
 use rules::Refusal;
 
 // The last decimal digit of n, in ASCII.
@@ -21,6 +22,7 @@ fn digit(n: u64) -> u8
 }
 
 // A number with no leading zero: the digits before the last, and the last. The caller owes the room.
+// The kit's itoa prints into a buffer of its own, from which its digits would have to be copied: no plainer.
 #[tactic(auto, using(crate::proofs::Decimals::below_length, crate::proofs::Decimals::more_length, crate::proofs::Decimals::below_written, crate::proofs::Decimals::more_written))]
 pub fn put_decimal(buf: &mut [u8], at: usize, n: u64) -> usize
     requires { at + length (decimal n) ≤ length buf.old }
@@ -61,12 +63,12 @@ fn put_figure(buf: &mut [u8], at: usize, n: u64, d: u64) -> usize
     let field = filling::put_text(buf, at, b" ");
     let printed = e79::printed_of_ordered(n, d);
     match printed {
-        Printed::Figure(p) => put_places(buf, field, p),
-        Printed::NoBase => filling::put_text(buf, field, b"-"),
+        Some(p) => put_places(buf, field, p),
+        None => filling::put_text(buf, field, b"-"),
     }
 }
 
-// The five figures and the line's end. Each name is the place behind that figure.
+// The five figures and the line's end. Each name is the place behind that figure: a loop over five pairs would name no column.
 fn put_figures(buf: &mut [u8], at: usize, q: Quantities) -> usize
     requires ordered { Ordered q }
     requires q_in_bounds { at + length (figures q) ≤ length buf.old }
@@ -117,7 +119,7 @@ fn figure_length(d: u64) -> usize
     if d == 0 { 2 } else { 7 }
 }
 
-// How many bytes the five figures and the line's end take.
+// How many bytes the five figures and the line's end take. Tried as an iterator's sum over the five bases: that it fits is not proved.
 fn figures_length(q: Quantities) -> usize
     ensures { LengthOf (figures q) 36 result }
 {
@@ -154,13 +156,23 @@ pub fn put_labelled(buf: &mut [u8], at: usize, label: &[u8], n: usize) -> usize
     put_decimal(buf, number, n as u64)
 }
 
-// The line for a refused log, at the front of the buffer, and its length. The caller owes 80 bytes, in which every refusal fits.
+// The line of any three numbers, at the front of the buffer, and its length. The caller owes 80 bytes, in which all of them fit.
+// Plain numbers: here ground and list are printed, and the definition (`refused_at`) is of three numbers.
+pub fn put_refused_at(buf: &mut [u8], number: usize, list: usize, place: usize) -> usize
+    requires { 80 ≤ length buf.old }
+    ensures { AtFront (refused_at number list place) 79 buf.old result buf.new }
+{
+    let ground = put_labelled(buf, 0, b"refused ", number);
+    let of_list = put_labelled(buf, ground, b" list ", list);
+    let at_place = put_labelled(buf, of_list, b" at ", place);
+    filling::put_text(buf, at_place, b"\n")
+}
+
+// The line for a refused log, at the front of the buffer, and its length.
+#[tactic(auto, unfolding(crate::specs::Report::refused_line))]
 pub fn put_refused_line(buf: &mut [u8], x: Refusal) -> usize
     requires { 80 ≤ length buf.old }
     ensures { AtFront (refused_line x) 79 buf.old result buf.new }
 {
-    let number = put_labelled(buf, 0, b"refused ", x.number);
-    let list = put_labelled(buf, number, b" list ", x.list);
-    let place = put_labelled(buf, list, b" at ", x.place);
-    filling::put_text(buf, place, b"\n")
+    put_refused_at(buf, x.ground.number(), x.list.number(), x.place)
 }

@@ -1,6 +1,7 @@
 -- The report's length, and what the report calls answer.
 -- Assumes nothing.
 use mathlib.Core.Path.{◌≡◌, refl, sym, ap, ◌∙◌}
+use mathlib.Core.Bool.{Bool, true, false}
 use mathlib.Core.List.{List, [], ◌++◌}
 use Prim.Native.Nat.{ℕ, ◌+◌, ◌≤◌, ◌<◌}
 use native.Mathlib.Nat.{zero-add}
@@ -8,11 +9,13 @@ use native.Mathlib.Omega.{arith}
 use lib.ListN.{length, take, drop}
 use lib.Dec.{ltb}
 use lib.Seq.{take-append_seam}
-use borrow.Author.Tests.{lt-ltb, le-ltb}
+use borrow.Author.Tests.{lt-ltb, le-ltb, ltb-true}
 use Rattle.records.specs.Log.{Log, decode}
 use Rattle.rules.specs.declared.Refusal.{Refusal}
-use Rattle.rules.specs.declared.Verdict.{Verdict}
-use Rattle.rules.specs.declared.Verdict.TheVariants.{Accepted, Refused}
+use Rattle.rules.specs.declared.Ground.TheVariants.{ShortBuffer}
+use Rattle.rules.specs.declared.LogList.TheVariants.{NoList}
+use Rattle.rules.specs.Grounds.{Verdict}
+use Rattle.std.specs.declared.result.Result.TheVariants.{Ok, Err}
 use Rattle.rules.specs.Grounds.{ground, ◌then◌}
 use Rattle.rules.specs.Quantities.{of_module, of_tool}
 use Rattle.rules.specs.Verdict.{verdict}
@@ -23,7 +26,7 @@ use Rattle.report.proofs.Lengths.{heading-length, length-report}
 use Rattle.report.proofs.Tables.{table_length}
 use Rattle.filling.proofs.Written.{written-front, at_front, front-more}
 use Rattle.judging.specs.Working.{Consistent}
-use Rattle.reporting.specs.Reports.{printed_by, printed, Prints, report_text, verdict_for, of_log, short, Examined, written_by, written_part, Written}
+use Rattle.reporting.specs.Reports.{printed_by, printed, Prints, report_text, verdict_for, ForRoom, of_log, short, Examined, written_by, written_part, Written}
 use Rattle.rules.proofs.KnownRefusals.{log-refusal}
 
 -- ---- the length of a report
@@ -34,35 +37,35 @@ report_length_lem l = rw heading-length at (table_length heading (λ m. module_l
 
 -- ---- the verdict for a buffer
 
-module _ (s : List ℕ) (room : ℕ) (v : Verdict) (answer : v ≡ verdict s) where
-  for-room : v ≡ Accepted → verdict_for s room ≡ ground 18 0 0 (ltb room (length (report_text (decode s))))
+module _ (s : List ℕ) (room : ℕ) where
+  pub room_refused : (x : Refusal) → verdict s ≡ Err x → verdict_for s room ≡ Err x
   unfolding verdict_for
-  for-room e = ap (λ (w : Verdict). w then ground 18 0 0 (ltb room (length (report_text (decode s))))) (sym answer ∙ e)
+  room_refused x e = ap (λ (w : Verdict). w then ground ShortBuffer NoList 0 (ltb room (length (report_text (decode s))))) e
 
-  pub room_refused : (x : Refusal) → v ≡ Refused x → verdict_for s room ≡ Refused x
-  unfolding verdict_for
-  room_refused x e = ap (λ (w : Verdict). w then ground 18 0 0 (ltb room (length (report_text (decode s))))) (sym answer ∙ e)
+  pub examined_refused : (x : Refusal) → verdict s ≡ Err x → Examined s room (Err x)
+  examined_refused x e = record { answer = sym (room_refused x e); refusal = λ y f. of_log (log-refusal s y (e ∙ f)) }
 
-  pub room_short : v ≡ Accepted → room < length (report_text (decode s)) → verdict_for s room ≡ Refused (record { number = 18; list = 0; place = 0 })
-  room_short e h = for-room e ∙ ap (ground 18 0 0) (lt-ltb room (length (report_text (decode s))) h)
+  module _ (e : verdict s ≡ Ok tt) where
+    for-room : verdict_for s room ≡ ground ShortBuffer NoList 0 (ltb room (length (report_text (decode s))))
+    unfolding verdict_for
+    for-room = ap (λ (w : Verdict). w then ground ShortBuffer NoList 0 (ltb room (length (report_text (decode s))))) e
 
-  pub room_enough : v ≡ Accepted → length (report_text (decode s)) ≤ room → verdict_for s room ≡ Accepted
-  room_enough e h = for-room e ∙ ap (ground 18 0 0) (le-ltb room (length (report_text (decode s))) h)
+    pub room_short : room < length (report_text (decode s)) → verdict_for s room ≡ Err (record { ground = ShortBuffer; list = NoList; place = 0 })
+    room_short h = for-room ∙ ap (ground ShortBuffer NoList 0) (lt-ltb room (length (report_text (decode s))) h)
 
-  pub examined_refused : (x : Refusal) → v ≡ Refused x → Examined s room v
-  examined_refused x e =
-      record { answer = e ∙ sym (room_refused x e); refusal = λ y f. of_log (log-refusal s y (sym answer ∙ f)) }
+    pub room_enough : length (report_text (decode s)) ≤ room → verdict_for s room ≡ Ok tt
+    room_enough h = for-room ∙ ap (ground ShortBuffer NoList 0) (le-ltb room (length (report_text (decode s))) h)
 
-  pub examined_short : (w : Verdict) → v ≡ Accepted → room < length (report_text (decode s)) → w ≡ Refused (record { number = 18; list = 0; place = 0 }) → Examined s room w
-  examined_short w e h f =
-      record { answer = f ∙ sym (room_short e h); refusal = λ y g. (let q : y ≡ record { number = 18; list = 0; place = 0 } = cc in short (sym answer ∙ e) h q) }
-
-  pub examined_enough : v ≡ Accepted → length (report_text (decode s)) ≤ room → Examined s room Accepted
-  examined_enough e h = record { answer = sym (room_enough e h); refusal = λ y g. (let z : ◌≡◌ {A = ℕ} 0 1 = cc in absurd (omega arith)) }
+    pub examined : (v : Verdict) → v ≡ ground ShortBuffer NoList 0 (ltb room (length (report_text (decode s)))) → Examined s room v
+    examined v q = record { answer = q ∙ sym for-room; refusal = λ y f. go (ltb room (length (report_text (decode s)))) refl y (sym q ∙ f) }
+      where
+        go : (b : Bool) → ltb room (length (report_text (decode s))) ≡ b → (y : Refusal) → ground ShortBuffer NoList 0 b ≡ Err y → ForRoom s room y
+        go true p y f = let q : y ≡ record { ground = ShortBuffer; list = NoList; place = 0 } = cc in short e (ltb-true room (length (report_text (decode s))) p) q
+        go false p y f = absurd (refused-not (sym f))
 
 -- ---- what is written
 
-pub written_none : (s b : List ℕ) (x : Refusal) → verdict_for s (length b) ≡ Refused x → Written s b 0 b
+pub written_none : (s b : List ℕ) (x : Refusal) → verdict_for s (length b) ≡ Err x → Written s b 0 b
 unfolding written_part
 written_none s b x e =
     let part : written_part s (length b) ≡ [] = ap (λ (w : Verdict). written_by w (report_text (decode s))) e in
@@ -74,7 +77,7 @@ written_none s b x e =
       empty = (λ z. (x, e), λ y. refl);
     }
 
-pub written_all : (s b : List ℕ) (r : ℕ) (a : List ℕ) → Consistent (decode s) → verdict_for s (length b) ≡ Accepted → length (report_text (decode s)) ≤ length b → Put (report_text (decode s)) b 0 r a → Written s b r a
+pub written_all : (s b : List ℕ) (r : ℕ) (a : List ℕ) → Consistent (decode s) → verdict_for s (length b) ≡ Ok tt → length (report_text (decode s)) ≤ length b → Put (report_text (decode s)) b 0 r a → Written s b r a
 unfolding written_part report_text
 written_all s b r a consistent e h p =
     let text = report_text (decode s) in
@@ -99,13 +102,13 @@ unfolding report_text
 report-longest l ok = length-report l.modules (of_module l) (of_tool l) ok.few
 
 module _ (text : Log → List ℕ) (most : ℕ) (s b : List ℕ) (r : ℕ) (a : List ℕ) where
-  pub prints_refused : (x : Refusal) → verdict s ≡ Refused x → AtFront (refused_line x) 79 b r a → 79 ≤ most → Prints text most s b r a
+  pub prints_refused : (x : Refusal) → verdict s ≡ Err x → AtFront (refused_line x) 79 b r a → 79 ≤ most → Prints text most s b r a
   unfolding printed
   prints_refused x e p h =
       let same : printed text s ≡ refused_line x = ap (λ (w : Verdict). printed_by w (text (decode s))) e in
       rw same (front-more h p)
 
-  pub prints_text : verdict s ≡ Accepted → length (text (decode s)) ≤ most → Put (text (decode s)) b 0 r a → Prints text most s b r a
+  pub prints_text : verdict s ≡ Ok tt → length (text (decode s)) ≤ most → Put (text (decode s)) b 0 r a → Prints text most s b r a
   unfolding printed
   prints_text e h p =
       let same : printed text s ≡ text (decode s) = ap (λ (w : Verdict). printed_by w (text (decode s))) e in

@@ -3,10 +3,11 @@
 use Rattle.std.specs.Prelude.{◌≡◌, List, [], ◌++◌, ◌↔◌, ℕ, ◌≤◌, ◌<◌, ltb, length, drop}
 use Rattle.records.specs.Log.{Log, decode}
 use Rattle.rules.specs.declared.Refusal.{Refusal}
-use Rattle.rules.specs.declared.Verdict.{Verdict}
-use Rattle.rules.specs.declared.Verdict.TheVariants.{Accepted, Refused}
+use Rattle.rules.specs.declared.Ground.TheVariants.{ShortBuffer}
+use Rattle.rules.specs.declared.LogList.TheVariants.{NoList}
+use Rattle.rules.specs.Grounds.{Verdict, refusal}
+use Rattle.std.specs.declared.result.Result.TheVariants.{Ok, Err}
 use Rattle.rules.specs.Grounds.{ground, ◌then◌}
-use Rattle.rules.specs.Names.{no_list}
 use Rattle.rules.specs.Quantities.{of_module, of_tool}
 use Rattle.rules.specs.Verdict.{verdict}
 use Rattle.rules.specs.Refusals.{OfLog}
@@ -21,20 +22,20 @@ report_text l = report_of l.modules (of_module l) (of_tool l)
 -- acceptance of a log and a buffer of `room` bytes, or the refusal: 18 only for an accepted log, whose report is longer than the buffer
 unfoldable pub verdict_for : List ℕ → ℕ → Verdict
 unfolding verdict report_text decode
-verdict_for s room = verdict s then ground 18 no_list 0 (ltb room (length (report_text (decode s))))
+verdict_for s room = verdict s then ground ShortBuffer NoList 0 (ltb room (length (report_text (decode s))))
 
 pub data ForRoom (s : List ℕ) (room : ℕ) (x : Refusal) : Type 0 where
   of_log : OfLog s x → ForRoom s room x
-  short : verdict s ≡ Accepted → room < length (report_text (decode s)) → x ≡ record { number = 18; list = no_list; place = 0 } → ForRoom s room x
+  short : verdict s ≡ Ok tt → room < length (report_text (decode s)) → x ≡ refusal ShortBuffer NoList 0 → ForRoom s room x
 
 pub record Examined (s : List ℕ) (room : ℕ) (r : Verdict) : Type 0 where
   pub answer : r ≡ verdict_for s room
-  pub refusal : (x : Refusal) → r ≡ Refused x → ForRoom s room x
+  pub refusal : (x : Refusal) → r ≡ Err x → ForRoom s room x
 
 -- what is written: the report where the verdict accepts, and nothing where it refuses
 abbrev pub written_by : Verdict → List ℕ → List ℕ
-written_by Accepted text = text
-written_by (Refused x) text = []
+written_by (Ok tt) text = text
+written_by (Err x) text = []
 
 unfoldable pub written_part : List ℕ → ℕ → List ℕ
 unfolding verdict_for report_text decode
@@ -46,7 +47,7 @@ pub record Written (s before : List ℕ) (r : ℕ) (after : List ℕ) : Type 0 w
   pub bytes : after ≡ written_part s (length before) ++ drop r before
   pub within : r ≤ length before
   pub longest : r ≤ 2494
-  pub empty : (r ≡ 0) ↔ ((x : Refusal) × (verdict_for s (length before) ≡ Refused x))
+  pub empty : (r ≡ 0) ↔ ((x : Refusal) × (verdict_for s (length before) ≡ Err x))
 
 -- the part that `report` hands back, at a pointer: it begins where the buffer begins, and holds what is written
 pub record HandedBack (s before : List ℕ) (buffer pointer : ℕ × ℕ) (part : List ℕ) : Type 0 where
@@ -55,8 +56,8 @@ pub record HandedBack (s before : List ℕ) (buffer pointer : ℕ × ℕ) (part 
 
 -- what a program prints of a log: a text where the log is accepted, and else the line that says why it is refused
 abbrev pub printed_by : Verdict → List ℕ → List ℕ
-printed_by Accepted text = text
-printed_by (Refused x) text = refused_line x
+printed_by (Ok tt) text = text
+printed_by (Err x) text = refused_line x
 
 unfoldable pub printed : (Log → List ℕ) → List ℕ → List ℕ
 unfolding verdict decode refused_line

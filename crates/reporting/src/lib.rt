@@ -1,182 +1,66 @@
 // The verdict on a log and a buffer's length, the report written into a buffer, and what the shift program prints. No public call has a `requires`.
+// A buffer and a place: see `filling`.
 #![tactic(auto)]
 
-ghost use Rattle.std.specs.Prelude.{◌≡◌, ◌+◌, ◌*◌, ◌<◌, ◌≤◌, length};
+ghost use Rattle.std.specs.Prelude.{◌≡◌, ◌+◌, ◌*◌, ◌≤◌, length};
 ghost use Rattle.records.specs.Log.{decode};
 ghost use Rattle.rules.specs.Quantities.{of_module};
 ghost use Rattle.filling.specs.Buffer.{Put};
-ghost use Rattle.report.specs.Report.{module_line, module_lines};
-ghost use Rattle.judging.specs.Working.{WorkingTotals, Consistent};
+ghost use Rattle.report.specs.Report.{module_lines};
 ghost use Rattle.reporting.specs.Reports.{report_text, Examined, Written, HandedBack, Prints};
 
-use rules::Verdict;
-
-// How many bytes the line of module m takes.
-fn line_length<'a>(
-    log: &[u8],
-    period: u64,
-    m: usize,
-    totals: &'a [u64; 384],
-    uptime: &'a [u64; 64],
-    actual: &'a [u64; 64],
-    effective: &'a [u64; 64],
-) -> usize
-    requires m_bound { (m < (decode log.now).modules) × (m < 64) × (period ≡ (decode log.now).period) }
-    requires working_totals { WorkingTotals (decode log.now) totals.now uptime.now actual.now effective.now }
-    ensures { (result ≡ length (module_line m (of_module (decode log.now) m))) × (result ≤ 38) }
-{
-    report::module_line_length(
-        m,
-        judging::quantities_of(log, period, m, totals, uptime, actual, effective),
-    )
-}
+use judging::Account;
+use rules::{Ground, LogList, Refusal};
 
 // How many bytes the modules' lines take.
-fn lines_length<'a>(
-    log: &[u8],
-    period: u64,
-    modules: usize,
-    totals: &'a [u64; 384],
-    uptime: &'a [u64; 64],
-    actual: &'a [u64; 64],
-    effective: &'a [u64; 64],
-) -> usize
-    requires period_value { (period ≡ (decode log.now).period) × (modules ≡ (decode log.now).modules) }
-    requires working_totals { WorkingTotals (decode log.now) totals.now uptime.now actual.now effective.now }
-    requires consistent { Consistent (decode log.now) }
-    ensures { (result ≡ length (module_lines (of_module (decode log.now)) modules)) × (result ≤ 38 * modules) }
+fn lines_length(account: &Account<'_>) -> usize
+    ensures { (result ≡ length (module_lines (of_module (decode account.now.log.bytes.now)) (decode account.now.log.bytes.now).modules)) × (result ≤ 38 * (decode account.now.log.bytes.now).modules) }
 {
     let mut size: usize = 0;
-    for m in 0..modules {
-        size += line_length(log, period, m, totals, uptime, actual, effective);
+    // By number, which each line begins with.
+    for m in 0..account.modules() {
+        size += report::module_line_length(m, account.module_quantities(m));
     }
     size
 }
 
 // How many bytes the report takes.
-fn report_length<'a>(
-    log: &[u8],
-    period: u64,
-    modules: usize,
-    totals: &'a [u64; 384],
-    uptime: &'a [u64; 64],
-    actual: &'a [u64; 64],
-    effective: &'a [u64; 64],
-) -> usize
-    requires period_value { (period ≡ (decode log.now).period) × (modules ≡ (decode log.now).modules) }
-    requires working_totals { WorkingTotals (decode log.now) totals.now uptime.now actual.now effective.now }
-    requires consistent { Consistent (decode log.now) }
-    ensures { result ≡ length (report_text (decode log.now)) }
+fn report_length(account: &Account<'_>) -> usize
+    ensures { result ≡ length (report_text (decode account.now.log.bytes.now)) }
 {
-    let lines = lines_length(log, period, modules, totals, uptime, actual, effective);
-    let tool = report::tool_line_length(judging::tool_sums(
-        log, period, modules, totals, uptime, actual, effective,
-    ));
-    32 + lines + tool
+    32 + lines_length(account) + report::tool_line_length(account.tool_quantities())
 }
 
 // Acceptance of a log and a buffer of `room` bytes for its report, or the refusal.
-pub fn examine(log: &[u8], room: usize) -> Verdict
+pub fn examine(log: &[u8], room: usize) -> Result<(), Refusal>
     ensures { Examined log.now room result }
 {
-    let j = judging::judge_log(log);
-    let verdict = j.verdict;
-    if let Verdict::Refused(_) = verdict {
-        return verdict;
-    }
-    if room
-        < report_length(
-            log,
-            j.period,
-            j.modules,
-            &j.totals,
-            &j.uptime,
-            &j.actual,
-            &j.effective,
-        )
-    {
-        return judging::refused(18, 0);
-    }
-    Verdict::Accepted
+    let account = judging::judge_log(log)?;
+    Ground::ShortBuffer.refuses(room < report_length(&account), LogList::NoList, 0)
 }
 
-// The line of module m, put into the buffer from `at` on.
-fn put_line<'a>(
-    buf: &mut [u8],
-    at: usize,
-    log: &[u8],
-    period: u64,
-    m: usize,
-    totals: &'a [u64; 384],
-    uptime: &'a [u64; 64],
-    actual: &'a [u64; 64],
-    effective: &'a [u64; 64],
-) -> usize
-    requires m_bound { (m < (decode log.now).modules) × (m < 64) × (period ≡ (decode log.now).period) }
-    requires working_totals { WorkingTotals (decode log.now) totals.now uptime.now actual.now effective.now }
-    requires consistent { Consistent (decode log.now) }
-    requires m_in_bounds { at + length (module_line m (of_module (decode log.now) m)) ≤ length buf.old }
-    ensures { Put (module_line m (of_module (decode log.now) m)) buf.old at result buf.new }
-{
-    report::put_module_line(
-        buf,
-        at,
-        m,
-        judging::quantities_of(log, period, m, totals, uptime, actual, effective),
-    )
-}
-
-// The modules' lines, put into the buffer from `at` on.
-fn put_lines<'a>(
-    buf: &mut [u8],
-    at: usize,
-    log: &[u8],
-    period: u64,
-    modules: usize,
-    totals: &'a [u64; 384],
-    uptime: &'a [u64; 64],
-    actual: &'a [u64; 64],
-    effective: &'a [u64; 64],
-) -> usize
-    requires period_value { (period ≡ (decode log.now).period) × (modules ≡ (decode log.now).modules) }
-    requires working_totals { WorkingTotals (decode log.now) totals.now uptime.now actual.now effective.now }
-    requires consistent { Consistent (decode log.now) }
-    requires modules_in_bounds { at + length (module_lines (of_module (decode log.now)) modules) ≤ length buf.old }
-    ensures { Put (module_lines (of_module (decode log.now)) modules) buf.old at result buf.new }
+// The modules' lines, put into the buffer from `at` on. Alike `put_lines` of `printing` but for the line: a function over that step would be longer, since
+// it owes the room of every line.
+fn put_lines(buf: &mut [u8], at: usize, account: &Account<'_>) -> usize
+    requires { at + length (module_lines (of_module (decode account.now.log.bytes.now)) (decode account.now.log.bytes.now).modules) ≤ length buf.old }
+    ensures { Put (module_lines (of_module (decode account.now.log.bytes.now)) (decode account.now.log.bytes.now).modules) buf.old at result buf.new }
 {
     let mut next = at;
-    for m in 0..modules {
-        next = put_line(buf, next, log, period, m, totals, uptime, actual, effective);
+    // By number, which each line begins with.
+    for m in 0..account.modules() {
+        next = report::put_module_line(buf, next, m, account.module_quantities(m));
     }
     next
 }
 
 // The whole report, put at the front of the buffer.
-fn put_report<'a>(
-    buf: &mut [u8],
-    log: &[u8],
-    period: u64,
-    modules: usize,
-    totals: &'a [u64; 384],
-    uptime: &'a [u64; 64],
-    actual: &'a [u64; 64],
-    effective: &'a [u64; 64],
-) -> usize
-    requires period_value { (period ≡ (decode log.now).period) × (modules ≡ (decode log.now).modules) }
-    requires working_totals { WorkingTotals (decode log.now) totals.now uptime.now actual.now effective.now }
-    requires consistent { Consistent (decode log.now) }
-    requires log_in_bounds { length (report_text (decode log.now)) ≤ length buf.old }
-    ensures { Put (report_text (decode log.now)) buf.old 0 result buf.new }
+fn put_report(buf: &mut [u8], account: &Account<'_>) -> usize
+    requires { length (report_text (decode account.now.log.bytes.now)) ≤ length buf.old }
+    ensures { Put (report_text (decode account.now.log.bytes.now)) buf.old 0 result buf.new }
 {
     let lines = report::put_heading(buf, 0);
-    let tool = put_lines(
-        buf, lines, log, period, modules, totals, uptime, actual, effective,
-    );
-    report::put_tool_line(
-        buf,
-        tool,
-        judging::tool_sums(log, period, modules, totals, uptime, actual, effective),
-    )
+    let tool = put_lines(buf, lines, account);
+    report::put_tool_line(buf, tool, account.tool_quantities())
 }
 
 // Writes the report to the front of the buffer and answers its length: 0, and no byte changed, in just the cases that `examine` refuses for the
@@ -184,34 +68,13 @@ fn put_report<'a>(
 pub fn write_report(log: &[u8], buf: &mut [u8]) -> usize
     ensures { Written log.now buf.old result buf.new }
 {
-    let j = judging::judge_log(log);
-    let answer = j.verdict;
-    if let Verdict::Refused(_) = answer {
+    let Ok(account) = judging::judge_log(log) else {
+        return 0;
+    };
+    if buf.len() < report_length(&account) {
         return 0;
     }
-    if buf.len()
-        < report_length(
-            log,
-            j.period,
-            j.modules,
-            &j.totals,
-            &j.uptime,
-            &j.actual,
-            &j.effective,
-        )
-    {
-        return 0;
-    }
-    put_report(
-        buf,
-        log,
-        j.period,
-        j.modules,
-        &j.totals,
-        &j.uptime,
-        &j.actual,
-        &j.effective,
-    )
+    put_report(buf, &account)
 }
 
 // Writes the report to the front of the buffer and hands that written part back, empty in just the cases that `examine` refuses for the buffer's
@@ -224,23 +87,13 @@ pub fn report<'a>(log: &[u8], buf: &'a mut [u8]) -> &'a mut [u8]
 }
 
 // Writes what the shift program prints to the front of the buffer and answers its length: the report, or the line that says why the log is refused.
-// The longest report takes 2,494 bytes.
+// The longest report takes 2,494 bytes. The match of `print_table` and `print_supplemental` too: a function over the step that writes would be longer than
+// its two arms.
 pub fn print_report(log: &[u8], buf: &mut [u8; 2494]) -> usize
     ensures { Prints report_text 2494 log.now buf.old result buf.new }
 {
-    let j = judging::judge_log(log);
-    let verdict = j.verdict;
-    if let Verdict::Refused(x) = verdict {
-        return report::put_refused_line(buf, x);
+    match judging::judge_log(log) {
+        Ok(account) => put_report(buf, &account),
+        Err(x) => report::put_refused_line(buf, x),
     }
-    put_report(
-        buf,
-        log,
-        j.period,
-        j.modules,
-        &j.totals,
-        &j.uptime,
-        &j.actual,
-        &j.effective,
-    )
 }

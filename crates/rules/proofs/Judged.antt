@@ -15,7 +15,9 @@ use Rattle.records.specs.declared.Standard.{Standard}
 use Rattle.records.specs.declared.UnitRecord.{UnitRecord}
 use Rattle.records.specs.Log.{up_to}
 use Rattle.rules.specs.declared.Placed.{Placed}
-use Rattle.rules.specs.declared.Verdict.TheVariants.{Accepted}
+use Rattle.std.specs.declared.result.Result.TheVariants.{Ok}
+use Rattle.rules.specs.declared.Ground.TheVariants.{Spare, StrayModule, Outside, OverGood, NoStandard}
+use Rattle.rules.specs.declared.LogList.TheVariants.{Units}
 use Rattle.rules.specs.Grounds.{ground, in_turn}
 use Rattle.rules.specs.Theoretical.{in_force, For, Answers, time_of, credit, theoretical_time, is_at, judged_by, units_judged}
 use Rattle.rules.specs.Quantities.{sum_below}
@@ -52,26 +54,26 @@ module _ (modules : ℕ) (ss : List Standard) where
   Passed [] = Unit {0}
   Passed (u ∷ us) = (u.«module» < modules) × (is_none (in_force ss u.«module» u.recipe u.time) ≡ false) × Passed us
 
-  passed-one : (period i : ℕ) (earlier : List UnitRecord) (u : UnitRecord) → unit_ground period modules ss earlier i u ≡ Accepted
+  passed-one : (period i : ℕ) (earlier : List UnitRecord) (u : UnitRecord) → unit_ground period modules ss earlier i u ≡ Ok tt
       → (u.«module» < modules) × (is_none (in_force ss u.«module» u.recipe u.time) ≡ false)
   unfolding unit_ground
   passed-one period i earlier u e =
       let stray = leb modules u.«module» in
       let nothing = is_none (in_force ss u.«module» u.recipe u.time) in
-      let e7 = then-right (ground 6 3 i (not (eqb u.spare 0))) _ e in
-      let e9 = then-right (ground 7 3 i stray) _ e7 in
-      let e14 = then-right (ground 9 3 i (leb period u.time)) _ e9 in
-      let e15 = then-right (ground 14 3 i (ltb u.actual u.effective)) _ e14 in
-      (leb-false modules u.«module» (not-met 7 3 i stray (then-left (ground 7 3 i stray) _ e7)), not-met 15 3 i nothing (then-left (ground 15 3 i nothing) _ e15))
+      let e7 = then-right (ground Spare Units i (not (eqb u.spare 0))) _ e in
+      let e9 = then-right (ground StrayModule Units i stray) _ e7 in
+      let e14 = then-right (ground Outside Units i (leb period u.time)) _ e9 in
+      let e15 = then-right (ground OverGood Units i (ltb u.actual u.effective)) _ e14 in
+      (leb-false modules u.«module» (not-met StrayModule Units i stray (then-left (ground StrayModule Units i stray) _ e7)), not-met NoStandard Units i nothing (then-left (ground NoStandard Units i nothing) _ e15))
 
-  passed-turn : (period i : ℕ) (earlier us : List UnitRecord) → in_turn (unit_ground period modules ss) earlier i us ≡ Accepted → Passed us
+  passed-turn : (period i : ℕ) (earlier us : List UnitRecord) → in_turn (unit_ground period modules ss) earlier i us ≡ Ok tt → Passed us
   unfolding in_turn
   passed-turn period i earlier [] e = tt
   passed-turn period i earlier (u ∷ us) e =
       let p = passed-one period i earlier u (then-left (unit_ground period modules ss earlier i u) _ e) in
       (p.0, p.1, passed-turn period (suc i) (earlier ++ (u ∷ [])) us (then-right (unit_ground period modules ss earlier i u) _ e))
 
-  pub passed : (period : ℕ) (us : List UnitRecord) → unit_grounds period modules ss us ≡ Accepted → Passed us
+  pub passed : (period : ℕ) (us : List UnitRecord) → unit_grounds period modules ss us ≡ Ok tt → Passed us
   unfolding unit_grounds
   passed period us e = passed-turn period 0 [] us e
 

@@ -11,9 +11,14 @@ use Rattle.records.specs.declared.StateRecord.{StateRecord}
 use Rattle.records.specs.declared.Standard.{Standard}
 use Rattle.records.specs.declared.UnitRecord.{UnitRecord}
 use Rattle.records.specs.Log.{Log, header_of, decode}
+use Rattle.rules.specs.declared.Ground.{Ground}
+use Rattle.rules.specs.declared.LogList.{LogList}
 use Rattle.rules.specs.declared.Refusal.{Refusal}
-use Rattle.rules.specs.declared.Verdict.{Verdict}
-use Rattle.rules.specs.declared.Verdict.TheVariants.{Accepted, Refused}
+use Rattle.rules.specs.declared.Ground.TheVariants.{NoHeader, Period, Modules, Counts, Length, Spare, StrayModule, StrayCode, Outside, Sequence, NoOpening, NoTime, Twice, OverGood, NoStandard, TooFast, TooGreat, Unsorted}
+use Rattle.rules.specs.declared.LogList.TheVariants.{NoList, States, Standards, Units}
+use Rattle.rules.specs.Grounds.{Verdict}
+use Rattle.std.specs.declared.result.Result.TheVariants.{Ok, Err}
+use Rattle.rules.specs.Names.{number_of, list_number}
 use Rattle.rules.specs.Grounds.{ground, ◌then◌, first_of, in_turn}
 use Rattle.rules.specs.RecordGrounds.{own_time, is_not_after, state_ground, first_time, is_opening, opening_ground, state_grounds, is_among, is_none, standard_ground, standard_grounds, unit_ground, unit_grounds}
 use Rattle.rules.specs.Sequence.{just_before, is_after, state_key, standard_key, unit_key}
@@ -24,19 +29,19 @@ use Rattle.rules.specs.Refusals.{Row, is_row, Known, log_refusals, OfLog}
 
 -- what is refused, if it is, is known
 pub record AllKnown (rows : List Row) (v : Verdict) : Type 0 where
-  pub known : (x : Refusal) → v ≡ Refused x → Known rows x
+  pub known : (x : Refusal) → v ≡ Err x → Known rows x
 
 module _ (rows : List Row) where
-  pub known_ground : (n l p : ℕ) (t : Bool) → T (is_row rows n l) → AllKnown rows (ground n l p t)
-  known_ground n l p true h = record { known = λ x e. let q : record { number = n; list = l; place = p } ≡ x = cc in subst (λ (y : Refusal). Known rows y) q h }
+  pub known_ground : (n : Ground) (l : LogList) (p : ℕ) (t : Bool) → T (is_row rows (number_of n) (list_number l)) → AllKnown rows (ground n l p t)
+  known_ground n l p true h = record { known = λ x e. let q : record { ground = n; list = l; place = p } ≡ x = cc in subst (λ (y : Refusal). Known rows y) q h }
   known_ground n l p false h = record { known = λ x e. let z : ◌≡◌ {A = ℕ} 0 1 = cc in absurd (omega arith) }
 
-  pub known_accepted : AllKnown rows Accepted
+  pub known_accepted : AllKnown rows (Ok tt)
   known_accepted = record { known = λ x e. let z : ◌≡◌ {A = ℕ} 0 1 = cc in absurd (omega arith) }
 
   pub known_then : (u v : Verdict) → AllKnown rows u → AllKnown rows v → AllKnown rows (u then v)
-  known_then Accepted v a b = b
-  known_then (Refused x) v a b = a
+  known_then (Ok tt) v a b = b
+  known_then (Err x) v a b = a
 
   pub known_first : (g : ℕ → Verdict) (n : ℕ) → ((i : ℕ) → AllKnown rows (g i)) → AllKnown rows (first_of g n)
   unfolding first_of
@@ -50,7 +55,7 @@ module _ (rows : List Row) where
 
 -- ---- the grounds of a log
 
-abbrev ruled : (n l p : ℕ) (t : Bool) → T (is_row log_refusals n l) → AllKnown log_refusals (ground n l p t)
+abbrev ruled : (n : Ground) (l : LogList) (p : ℕ) (t : Bool) → T (is_row log_refusals (number_of n) (list_number l)) → AllKnown log_refusals (ground n l p t)
 ruled = known_ground log_refusals
 
 infixr 40 ◌and◌
@@ -61,46 +66,46 @@ known-header : (s : List ℕ) → AllKnown log_refusals (header_grounds s)
 unfolding header_grounds
 known-header s =
     let h = header_of s in
-    ruled 1 0 0 (ltb (length s) 10) tt
-    and ruled 2 0 0 (bad_period h.period) tt
-    and ruled 3 0 0 (bad_modules h.modules) tt
-    and ruled 4 0 0 (bad_counts h) tt
-    and ruled 5 0 0 (bad_length (length s) h) tt
+    ruled NoHeader NoList 0 (ltb (length s) 10) tt
+    and ruled Period NoList 0 (bad_period h.period) tt
+    and ruled Modules NoList 0 (bad_modules h.modules) tt
+    and ruled Counts NoList 0 (bad_counts h) tt
+    and ruled Length NoList 0 (bad_length (length s) h) tt
 
 known-state : (period modules : ℕ) (earlier : List StateRecord) (i : ℕ) (r : StateRecord) → AllKnown log_refusals (state_ground period modules earlier i r)
 unfolding state_ground
 known-state period modules earlier i r =
-    ruled 6 1 i (not (eqb r.spare 0)) tt
-    and ruled 7 1 i (leb modules r.«module») tt
-    and ruled 8 1 i (ltb 23 r.code) tt
-    and ruled 9 1 i (leb period r.time) tt
-    and ruled 10 1 i (not (is_after state_key (just_before earlier) r) || is_not_after r.time (own_time r.«module» earlier)) tt
+    ruled Spare States i (not (eqb r.spare 0)) tt
+    and ruled StrayModule States i (leb modules r.«module») tt
+    and ruled StrayCode States i (ltb 23 r.code) tt
+    and ruled Outside States i (leb period r.time) tt
+    and ruled Sequence States i (not (is_after state_key (just_before earlier) r) || is_not_after r.time (own_time r.«module» earlier)) tt
 
 known-states : (period modules : ℕ) (rs : List StateRecord) → AllKnown log_refusals (state_grounds period modules rs)
 unfolding state_grounds opening_ground
 known-states period modules rs =
     known_turn log_refusals (state_ground period modules) [] 0 rs (known-state period modules)
-    and known_first log_refusals (opening_ground rs) modules (λ m. ruled 11 0 m (not (is_opening (first_time m rs))) tt)
+    and known_first log_refusals (opening_ground rs) modules (λ m. ruled NoOpening NoList m (not (is_opening (first_time m rs))) tt)
 
 known-standard : (period modules : ℕ) (earlier : List Standard) (i : ℕ) (s : Standard) → AllKnown log_refusals (standard_ground period modules earlier i s)
 unfolding standard_ground
 known-standard period modules earlier i s =
-    ruled 6 2 i (not (eqb s.spare 0)) tt
-    and ruled 7 2 i (leb modules s.«module») tt
-    and ruled 9 2 i (leb period s.start) tt
-    and ruled 12 2 i (eqb s.theoretical 0) tt
-    and ruled 13 2 i (is_among s earlier) tt
-    and ruled 19 2 i (not (is_after standard_key (just_before earlier) s)) tt
+    ruled Spare Standards i (not (eqb s.spare 0)) tt
+    and ruled StrayModule Standards i (leb modules s.«module») tt
+    and ruled Outside Standards i (leb period s.start) tt
+    and ruled NoTime Standards i (eqb s.theoretical 0) tt
+    and ruled Twice Standards i (is_among s earlier) tt
+    and ruled Unsorted Standards i (not (is_after standard_key (just_before earlier) s)) tt
 
 known-unit : (period modules : ℕ) (ss : List Standard) (earlier : List UnitRecord) (i : ℕ) (u : UnitRecord) → AllKnown log_refusals (unit_ground period modules ss earlier i u)
 unfolding unit_ground
 known-unit period modules ss earlier i u =
-    ruled 6 3 i (not (eqb u.spare 0)) tt
-    and ruled 7 3 i (leb modules u.«module») tt
-    and ruled 9 3 i (leb period u.time) tt
-    and ruled 14 3 i (ltb u.actual u.effective) tt
-    and ruled 15 3 i (is_none (in_force ss u.«module» u.recipe u.time)) tt
-    and ruled 19 3 i (not (is_after unit_key (just_before earlier) u)) tt
+    ruled Spare Units i (not (eqb u.spare 0)) tt
+    and ruled StrayModule Units i (leb modules u.«module») tt
+    and ruled Outside Units i (leb period u.time) tt
+    and ruled OverGood Units i (ltb u.actual u.effective) tt
+    and ruled NoStandard Units i (is_none (in_force ss u.«module» u.recipe u.time)) tt
+    and ruled Unsorted Units i (not (is_after unit_key (just_before earlier) u)) tt
 
 known-records : (l : Log) → AllKnown log_refusals (record_grounds l)
 unfolding record_grounds standard_grounds unit_grounds sum_grounds fast_ground
@@ -108,12 +113,12 @@ known-records l =
     known-states l.period l.modules l.states
     and known_turn log_refusals (standard_ground l.period l.modules) [] 0 l.standards (known-standard l.period l.modules)
     and known_turn log_refusals (unit_ground l.period l.modules l.standards) [] 0 l.units (known-unit l.period l.modules l.standards)
-    and known_first log_refusals (fast_ground l) l.modules (λ m. ruled 16 0 m (ltb (time_in l 0 m) (actual_time l m)) tt)
-    and ruled 17 0 0 (any_over (of_tool l) || any_time_over (tool_times l)) tt
+    and known_first log_refusals (fast_ground l) l.modules (λ m. ruled TooFast NoList m (ltb (time_in l 0 m) (actual_time l m)) tt)
+    and ruled TooGreat NoList 0 (any_over (of_tool l) || any_time_over (tool_times l)) tt
 
-pub verdict-known : (s : List ℕ) (x : Refusal) → verdict s ≡ Refused x → Known log_refusals x
+pub verdict-known : (s : List ℕ) (x : Refusal) → verdict s ≡ Err x → Known log_refusals x
 unfolding verdict
 verdict-known s x e = (known-header s and known-records (decode s)).known x e
 
-pub log-refusal : (s : List ℕ) (x : Refusal) → verdict s ≡ Refused x → OfLog s x
+pub log-refusal : (s : List ℕ) (x : Refusal) → verdict s ≡ Err x → OfLog s x
 log-refusal s x e = record { met = e; known = verdict-known s x e }

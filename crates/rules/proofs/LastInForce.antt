@@ -11,7 +11,7 @@ use borrow.Author.Tests.{lt-leb}
 use Rattle.records.specs.declared.Standard.{Standard}
 use Rattle.records.specs.Log.{up_to, header_of, standard_at, decode}
 use Rattle.rules.specs.declared.Placed.{Placed}
-use Rattle.rules.specs.declared.Verdict.TheVariants.{Accepted}
+use Rattle.std.specs.declared.result.Result.TheVariants.{Ok}
 use Rattle.rules.specs.Sequence.{is_rising_after, is_rising, standard_key}
 use Rattle.rules.specs.Theoretical.{placed, placed_from, later, is_for, has_begun, consider, in_force, For, Answers, last_where, last_in_force}
 use Rattle.rules.specs.Verdict.{verdict}
@@ -74,7 +74,7 @@ last_in_force_lem ss m recipe time r = same m recipe time none none 0 ss tt r
 -- ---- on an accepted log
 
 -- in every accepted log what the walk answers is in force, in the papers' own words
-pub accepted-in_force : (s : List ℕ) → verdict s ≡ Accepted → (m recipe time : ℕ)
+pub accepted-in_force : (s : List ℕ) → verdict s ≡ Ok tt → (m recipe time : ℕ)
     → Answers (standard_at s (header_of s)) (header_of s).standards m recipe time (last_in_force (decode s).standards m recipe time)
 unfolding decode
 accepted-in_force s a m recipe time =

@@ -12,7 +12,7 @@ use lib.Dec.{leb, eqb}
 use borrow.Author.Tests.{eq-eqb, ne_eqb, le-leb, lt-leb}
 use Rattle.records.specs.declared.StateRecord.{StateRecord}
 use Rattle.records.specs.Log.{header_of, state_at, up_to, decode}
-use Rattle.rules.specs.declared.Verdict.TheVariants.{Accepted}
+use Rattle.std.specs.declared.result.Result.TheVariants.{Ok}
 use Rattle.rules.specs.Sequence.{state_key}
 use Rattle.rules.specs.Time.{keep, code_at, CodeIs}
 use Rattle.rules.specs.Verdict.{verdict}
@@ -64,7 +64,7 @@ module _ (at : ℕ → StateRecord) (m t : ℕ) where
 -- ---- in accepted records
 
 -- in every accepted log a module's code at t is that of its latest record at or before t
-pub accepted-latest : (s : List ℕ) → verdict s ≡ Accepted → (m t : ℕ) → CodeIs (state_at s) (header_of s).states m t (code_at (decode s).states m t)
+pub accepted-latest : (s : List ℕ) → verdict s ≡ Ok tt → (m t : ℕ) → CodeIs (state_at s) (header_of s).states m t (code_at (decode s).states m t)
 unfolding decode
 accepted-latest s a m t =
     let n = (header_of s).states in

@@ -7,7 +7,7 @@ use Prim.Native.Nat.{ℕ}
 use Rattle.records.specs.Log.{header_of, decode}
 use Rattle.records.specs.Encode.{encode}
 use Rattle.records.proofs.RoundTrip.{encode-decode}
-use Rattle.rules.specs.declared.Verdict.TheVariants.{Accepted}
+use Rattle.std.specs.declared.result.Result.TheVariants.{Ok}
 use Rattle.rules.specs.Sequence.{state_key, standard_key, unit_key}
 use Rattle.rules.specs.Verdict.{verdict}
 use Rattle.rules.specs.SameRecords.{SameRecords, SameBytes}
@@ -18,7 +18,7 @@ of_parts : (s : List ℕ) → decode s ≡ record { period = (header_of s).perio
 unfolding decode
 of_parts s = refl
 
-same_log : (s t : List ℕ) → verdict s ≡ Accepted → verdict t ≡ Accepted → SameRecords s t → decode s ≡ decode t
+same_log : (s t : List ℕ) → verdict s ≡ Ok tt → verdict t ≡ Ok tt → SameRecords s t → decode s ≡ decode t
 same_log s t a b same =
     let p = risen s a in
     let q = risen t b in

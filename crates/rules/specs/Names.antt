@@ -1,6 +1,10 @@
--- The six states of E10 and the lists of a log by their numbers.
+-- The six states of E10, the grounds of refusals and the lists of a log by their numbers.
 -- Definitions only.
 use Rattle.std.specs.Prelude.{ℕ}
+use Rattle.rules.specs.declared.Ground.{Ground}
+use Rattle.rules.specs.declared.Ground.TheVariants.{NoHeader, Period, Modules, Counts, Length, Spare, StrayModule, StrayCode, Outside, Sequence, NoOpening, NoTime, Twice, OverGood, NoStandard, TooFast, TooGreat, ShortBuffer, Unsorted, AboveStandard, OverCounted, TooWide}
+use Rattle.rules.specs.declared.LogList.{LogList}
+use Rattle.rules.specs.declared.LogList.TheVariants.{NoList, States, Standards, Units, Benchmarks}
 
 -- the states: a module's six totals stand in this sequence
 abbrev pub productive : ℕ
@@ -21,18 +25,35 @@ unscheduled_down = 4
 abbrev pub nonscheduled : ℕ
 nonscheduled = 5
 
--- the lists, as a refusal names them; the last one is not of a log, but lent beside it
-abbrev pub no_list : ℕ
-no_list = 0
+-- the number of a ground, by the tables of refusals
+abbrev pub number_of : Ground → ℕ
+number_of NoHeader = 1
+number_of Period = 2
+number_of Modules = 3
+number_of Counts = 4
+number_of Length = 5
+number_of Spare = 6
+number_of StrayModule = 7
+number_of StrayCode = 8
+number_of Outside = 9
+number_of Sequence = 10
+number_of NoOpening = 11
+number_of NoTime = 12
+number_of Twice = 13
+number_of OverGood = 14
+number_of NoStandard = 15
+number_of TooFast = 16
+number_of TooGreat = 17
+number_of ShortBuffer = 18
+number_of Unsorted = 19
+number_of AboveStandard = 20
+number_of OverCounted = 21
+number_of TooWide = 22
 
-abbrev pub of_states : ℕ
-of_states = 1
-
-abbrev pub of_standards : ℕ
-of_standards = 2
-
-abbrev pub of_units : ℕ
-of_units = 3
-
-abbrev pub of_benchmarks : ℕ
-of_benchmarks = 4
+-- the number of a list, as a refusal tells it; the last one is not of a log, but lent beside it
+abbrev pub list_number : LogList → ℕ
+list_number NoList = 0
+list_number States = 1
+list_number Standards = 2
+list_number Units = 3
+list_number Benchmarks = 4

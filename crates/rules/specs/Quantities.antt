@@ -78,12 +78,6 @@ of_tool l =
       effective = sum_below (effective_time l) l.modules;
     }
 
--- ---- as lists, in the sequence in which they are handed out and printed
-
--- the six state times, by the states of document 01
+-- the six state times as a list, by the states of document 01, in the sequence in which they are handed out and printed
 abbrev pub times_of : StateTimes → List ℕ
 times_of t = t.productive ∷ t.standby ∷ t.engineering ∷ t.scheduled ∷ t.unscheduled ∷ t.nonscheduled ∷ []
-
--- total, uptime, production, actual, effective
-abbrev pub quantities_of : Quantities → List ℕ
-quantities_of q = q.total ∷ q.uptime ∷ q.production ∷ q.actual ∷ q.effective ∷ []

@@ -7,9 +7,10 @@ use Rattle.records.specs.declared.StateRecord.{StateRecord}
 use Rattle.records.specs.declared.Standard.{Standard}
 use Rattle.records.specs.declared.UnitRecord.{UnitRecord}
 use Rattle.rules.specs.declared.Placed.{Placed}
-use Rattle.rules.specs.declared.Verdict.{Verdict}
+use Rattle.rules.specs.declared.Ground.TheVariants.{Spare, StrayModule, StrayCode, Outside, Sequence, NoOpening, NoTime, Twice, OverGood, NoStandard, Unsorted}
+use Rattle.rules.specs.declared.LogList.TheVariants.{NoList, States, Standards, Units}
+use Rattle.rules.specs.Grounds.{Verdict}
 use Rattle.rules.specs.Grounds.{ground, ◌then◌, first_of, each_of, in_turn}
-use Rattle.rules.specs.Names.{no_list, of_states, of_standards, of_units}
 use Rattle.rules.specs.Sequence.{just_before, is_below, is_after, state_key, standard_key, unit_key}
 use Rattle.rules.specs.Theoretical.{is_for, in_force}
 
@@ -27,11 +28,11 @@ is_not_after t (some u) = leb t u
 unfoldable pub state_ground : ℕ → ℕ → List StateRecord → ℕ → StateRecord → Verdict
 unfolding just_before is_below own_time
 state_ground period modules earlier i r =
-    ground 6 of_states i (not (eqb r.spare 0))
-    then ground 7 of_states i (leb modules r.«module»)
-    then ground 8 of_states i (ltb 23 r.code)
-    then ground 9 of_states i (leb period r.time)
-    then ground 10 of_states i (not (is_after state_key (just_before earlier) r) || is_not_after r.time (own_time r.«module» earlier))
+    ground Spare States i (not (eqb r.spare 0))
+    then ground StrayModule States i (leb modules r.«module»)
+    then ground StrayCode States i (ltb 23 r.code)
+    then ground Outside States i (leb period r.time)
+    then ground Sequence States i (not (is_after state_key (just_before earlier) r) || is_not_after r.time (own_time r.«module» earlier))
 
 -- the time of module m's first record
 unfoldable pub first_time : ℕ → List StateRecord → Option ℕ
@@ -45,7 +46,7 @@ is_opening (some t) = eqb t 0
 -- no opening: module m's first record is not at time 0, or it has none
 unfoldable pub opening_ground : List StateRecord → ℕ → Verdict
 unfolding first_time
-opening_ground rs m = ground 11 no_list m (not (is_opening (first_time m rs)))
+opening_ground rs m = ground NoOpening NoList m (not (is_opening (first_time m rs)))
 
 -- the state records one by one, then the modules, the lowest first
 unfoldable pub state_grounds : ℕ → ℕ → List StateRecord → Verdict
@@ -62,12 +63,12 @@ is_among s (e ∷ es) = (is_for s.«module» s.recipe e && eqb e.start s.start) 
 unfoldable pub standard_ground : ℕ → ℕ → List Standard → ℕ → Standard → Verdict
 unfolding just_before is_below
 standard_ground period modules earlier i s =
-    ground 6 of_standards i (not (eqb s.spare 0))
-    then ground 7 of_standards i (leb modules s.«module»)
-    then ground 9 of_standards i (leb period s.start)
-    then ground 12 of_standards i (eqb s.theoretical 0)
-    then ground 13 of_standards i (is_among s earlier)
-    then ground 19 of_standards i (not (is_after standard_key (just_before earlier) s))
+    ground Spare Standards i (not (eqb s.spare 0))
+    then ground StrayModule Standards i (leb modules s.«module»)
+    then ground Outside Standards i (leb period s.start)
+    then ground NoTime Standards i (eqb s.theoretical 0)
+    then ground Twice Standards i (is_among s earlier)
+    then ground Unsorted Standards i (not (is_after standard_key (just_before earlier) s))
 
 unfoldable pub standard_grounds : ℕ → ℕ → List Standard → Verdict
 unfolding standard_ground in_turn
@@ -82,12 +83,12 @@ is_none (some p) = false
 unfoldable pub unit_ground : ℕ → ℕ → List Standard → List UnitRecord → ℕ → UnitRecord → Verdict
 unfolding in_force just_before is_below
 unit_ground period modules ss earlier i u =
-    ground 6 of_units i (not (eqb u.spare 0))
-    then ground 7 of_units i (leb modules u.«module»)
-    then ground 9 of_units i (leb period u.time)
-    then ground 14 of_units i (ltb u.actual u.effective)
-    then ground 15 of_units i (is_none (in_force ss u.«module» u.recipe u.time))
-    then ground 19 of_units i (not (is_after unit_key (just_before earlier) u))
+    ground Spare Units i (not (eqb u.spare 0))
+    then ground StrayModule Units i (leb modules u.«module»)
+    then ground Outside Units i (leb period u.time)
+    then ground OverGood Units i (ltb u.actual u.effective)
+    then ground NoStandard Units i (is_none (in_force ss u.«module» u.recipe u.time))
+    then ground Unsorted Units i (not (is_after unit_key (just_before earlier) u))
 
 unfoldable pub unit_grounds : ℕ → ℕ → List Standard → List UnitRecord → Verdict
 unfolding unit_ground in_turn

@@ -5,9 +5,11 @@ use Rattle.records.specs.declared.Header.{Header}
 use Rattle.records.specs.Log.{Log, header_of, decode}
 use Rattle.e79.specs.declared.Quantities.{Quantities}
 use Rattle.rules.specs.declared.StateTimes.{StateTimes}
-use Rattle.rules.specs.declared.Verdict.{Verdict}
+use Rattle.rules.specs.declared.Ground.TheVariants.{NoHeader, Period, Modules, Counts, Length, StrayModule, TooFast, TooGreat}
+use Rattle.rules.specs.declared.LogList.TheVariants.{NoList}
+use Rattle.rules.specs.Grounds.{Verdict}
 use Rattle.rules.specs.Grounds.{ground, ◌then◌, first_of}
-use Rattle.rules.specs.Names.{productive, no_list}
+use Rattle.rules.specs.Names.{productive}
 use Rattle.rules.specs.RecordGrounds.{state_grounds, standard_grounds, unit_grounds}
 use Rattle.rules.specs.Quantities.{time_in, actual_time, of_tool, tool_times, sum_below, uptime, effective_time}
 
@@ -31,16 +33,16 @@ bad_length size h = not (eqb size (10 + 6 * h.states + 10 * h.standards + 11 * h
 unfoldable pub header_grounds : List ℕ → Verdict
 header_grounds s =
     let h = header_of s in
-    ground 1 no_list 0 (ltb (length s) 10)
-    then ground 2 no_list 0 (bad_period h.period)
-    then ground 3 no_list 0 (bad_modules h.modules)
-    then ground 4 no_list 0 (bad_counts h)
-    then ground 5 no_list 0 (bad_length (length s) h)
+    ground NoHeader NoList 0 (ltb (length s) 10)
+    then ground Period NoList 0 (bad_period h.period)
+    then ground Modules NoList 0 (bad_modules h.modules)
+    then ground Counts NoList 0 (bad_counts h)
+    then ground Length NoList 0 (bad_length (length s) h)
 
 -- too fast: module m's actual theoretical time above its production time
 unfoldable pub fast_ground : Log → ℕ → Verdict
 unfolding time_in actual_time
-fast_ground l m = ground 16 no_list m (ltb (time_in l productive m) (actual_time l m))
+fast_ground l m = ground TooFast NoList m (ltb (time_in l productive m) (actual_time l m))
 
 -- above the greatest whole number up to which a double holds every one
 abbrev pub is_over : ℕ → Bool
@@ -57,7 +59,7 @@ any_time_over t =
 -- the modules for 16, the lowest first, then the tool's sums for 17
 unfoldable pub sum_grounds : Log → Verdict
 unfolding fast_ground first_of sum_below time_in uptime actual_time effective_time
-sum_grounds l = first_of (fast_ground l) l.modules then ground 17 no_list 0 (any_over (of_tool l) || any_time_over (tool_times l))
+sum_grounds l = first_of (fast_ground l) l.modules then ground TooGreat NoList 0 (any_over (of_tool l) || any_time_over (tool_times l))
 
 unfoldable pub record_grounds : Log → Verdict
 unfolding state_grounds standard_grounds unit_grounds sum_grounds
@@ -75,4 +77,4 @@ verdict s = header_grounds s then record_grounds (decode s)
 -- the same for a call about module m: a stray module where an accepted log has none of that number
 unfoldable pub verdict_on : List ℕ → ℕ → Verdict
 unfolding verdict decode
-verdict_on s m = verdict s then ground 7 no_list m (leb (decode s).modules m)
+verdict_on s m = verdict s then ground StrayModule NoList m (leb (decode s).modules m)

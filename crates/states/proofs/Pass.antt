@@ -2,34 +2,46 @@
 -- module's last stretch ends with the period, so that its counters are its state times.
 -- Assumes nothing.
 use mathlib.Core.Path.{◌≡◌, refl, sym, ◌∙◌}
-use mathlib.Core.Bool.{Bool, true, false}
+use mathlib.Core.Bool.{Bool, true, false, not}
 use mathlib.Core.Option.{none, some, IsSome}
 use mathlib.Core.List.{List, [], ◌∷◌, ◌++◌}
-use Prim.Native.Nat.{ℕ, ◌+◌, ◌-◌, ◌*◌, ◌/◌, ◌%◌, ◌≤◌, ◌<◌}
+use Prim.Native.Nat.{ℕ, ◌+◌, ◌-◌, ◌*◌, ◌/◌, ◌%◌, ◌^◌, ◌≤◌, ◌<◌}
 use native.Mathlib.Omega.{arith}
 use native.Mathlib.Decide.{ℕ_discrete}
 use lib.Dec.{eqb, lit<}
 use lib.ListN.{get_or, set, length, length-set, replicate, length-replicate, get_or-replicate}
 use lib.Seq.{get_or-set_same, get_or-set_other}
+use borrow.Author.Tests.{not-false}
 use Rattle.records.specs.declared.StateRecord.{StateRecord}
 use Rattle.records.specs.Log.{state_at, up_to}
-use Rattle.rules.specs.declared.Verdict.TheVariants.{Accepted}
-use Rattle.rules.specs.Grounds.{ground, first_of, each_of}
+use Rattle.std.specs.declared.result.Result.TheVariants.{Ok, Err}
+use Rattle.rules.specs.declared.Ground.TheVariants.{NoOpening}
+use Rattle.rules.specs.declared.LogList.TheVariants.{NoList}
+use Rattle.rules.specs.declared.Refusal.{Refusal}
+use Rattle.rules.specs.Grounds.{Verdict, ground, first_of, each_of}
 use Rattle.rules.specs.Time.{state_of, code_at, is_state, count, state_time}
 use Rattle.records.proofs.Widths.{state-fits}
-use Rattle.rules.specs.Keys.{StateFits}
+use Rattle.rules.specs.Sequence.{state_key}
+use Rattle.rules.specs.Keys.{state_number, StateFits, StatesSequenced}
+use Rattle.rules.proofs.Keys.{sequenced_none}
 use Rattle.rules.specs.RecordGrounds.{own_time, first_time, is_opening, state_ground, opening_ground, state_grounds}
-use Rattle.rules.proofs.FirstGround.{first_none, first_more, first_stop}
+use Rattle.rules.proofs.FirstGround.{refused-not, not-met, first_none, first_more, first_stop}
 use Rattle.states.specs.Tally.{Tallied}
-use Rattle.states.specs.Held.{totals_with, uptime_in, Unseen, Open, Stretch, fresh, running, Sums, Module, Modules, Held}
+use Rattle.states.specs.Held.{uptime_in, Ending, stretch_ended, Unseen, Open, Stretch, fresh, running, Sums, Module, Modules, Held}
 use Rattle.states.proofs.OneMore.{code_from, time_before, own_time_lem, first_new, first_stays, code_other, time_other, own_other, first_other}
 use Rattle.states.proofs.Sound.{next_of, Sound}
 use Rattle.states.proofs.Table.{state-low}
-use Rattle.states.proofs.Sums.{Runs, grows, sums-as, sums_own, sums_other, total_length, uptime-sum}
+use Rattle.states.proofs.Sums.{Runs, room, grows, sums-as, sums_own, sums_other, total_length, uptime-sum}
 
 -- a record's module and time by their widths
-pub fits-fields : (s : List ℕ) (i : ℕ) → StateFits (state_at s i)
-fits-fields s i = let f = state-fits s (80 + 48 * i) in (f.0, f.1.1.0)
+pub module_fits : (s : List ℕ) (i : ℕ) → (state_at s i).«module» < 64
+module_fits s i = (state-fits s (80 + 48 * i)).0
+
+pub time_fits : (s : List ℕ) (i : ℕ) → (state_at s i).time < 2 ^ 35
+time_fits s i = (state-fits s (80 + 48 * i)).1.1.0
+
+pub state_fits : (s : List ℕ) (i : ℕ) → StateFits (state_at s i)
+state_fits s i = (module_fits s i, time_fits s i)
 
 -- ---- a module's word
 
@@ -53,12 +65,12 @@ module _ {rs : List StateRecord} {m n s : ℕ} {o : Bool} where
   opening_of (running k) = k.opening
 
   -- it has no record where the least time is 0, and one where it is not or where it is opened
-  is-unseen : Stretch rs m n s o → n ≡ 0 → Unseen rs m n o
+  is-unseen : Stretch rs m n s o → n ≡ 0 → Unseen rs m n s o
   is-unseen (fresh k) z = k
   is-unseen (running k) z = absurd (omega (arith, k.next))
 
-  is_open : Stretch rs m n s o → (n ≡ 0 → ⊥) → Open rs m n s o
-  is_open (fresh k) pos = absurd (pos k.next)
+  is_open : Stretch rs m n s o → (n ≡ 0 → s ≡ 0 → ⊥) → Open rs m n s o
+  is_open (fresh k) pos = absurd (pos k.next k.state)
   is_open (running k) pos = k
 
   is-opened : Stretch rs m n s o → o ≡ true → Open rs m n s o
@@ -74,6 +86,7 @@ module _ (rs : List StateRecord) (r : StateRecord) where
       go : Stretch rs x n s o → Stretch (rs ++ (r ∷ [])) x n s o
       go (fresh k) = fresh (record {
         next = k.next;
+        state = k.state;
         opening = k.opening;
         own = own_other rs r x ne ∙ k.own;
         first = first_other rs r x ne ∙ k.first;
@@ -152,10 +165,10 @@ module _ (rs : List StateRecord) (r : StateRecord) where
               (sums-as (time_other rs r x ne _) (others x _ ne (H.sums x l)))
 
       -- a module's first record: no time of any state has passed
-      pub held_first : get_or P r.«module» 0 / 8 ≡ 0 → Held (rs ++ (r ∷ [])) period T (set P r.«module» word) (set O r.«module» (eqb r.time 0))
+      pub held_first : get_or P r.«module» 0 ≡ 0 → Held (rs ++ (r ∷ [])) period T (set P r.«module» word) (set O r.«module» (eqb r.time 0))
       unfolding is_state
       held_first z =
-          let k = is-unseen (H.modules.each r.«module» h).stretch z in
+          let k = is-unseen (H.modules.each r.«module» h).stretch (omega (arith, z)) in
           let a : r.«module» < length O = omega (arith, H.modules.opened) in
           let u : get_or P r.«module» 0 / 8 - 1 ≡ 0 = omega (arith, z) in
           let first = first_new rs r k.first in
@@ -167,17 +180,27 @@ module _ (rs : List StateRecord) (r : StateRecord) where
           (λ x v ne s. s)
 
       -- a later record: its module's open stretch ends
-      module _ (pos : get_or P r.«module» 0 / 8 ≡ 0 → ⊥) where
+      module _ (pos : get_or P r.«module» 0 ≡ 0 → ⊥) where
+        open-own : Open rs r.«module» (get_or P r.«module» 0 / 8) (get_or P r.«module» 0 % 8) (get_or O r.«module» false)
+        open-own = is_open (H.modules.each r.«module» h).stretch (λ a b. pos (omega (arith, a, b)))
+
         pub since : get_or P r.«module» 0 / 8 - 1 ≤ r.time
         since = omega (arith, ok.later, next-own (H.modules.each r.«module» h).stretch)
 
-        pub held_next : Held (rs ++ (r ∷ [])) period
-            (totals_with T r.«module» (get_or P r.«module» 0 % 8) (r.time - (get_or P r.«module» 0 / 8 - 1)))
-            (set P r.«module» word)
-            O
+        pub ending_next : r.time < 2 ^ 35 → Ending T P r.«module» r.time
+        ending_next l =
+            let low = (H.modules.each r.«module» h).low in
+            record {
+              running = open-own.next;
+              state = low;
+              begun = since;
+              room = room (H.sums r.«module» h) _ low _ (omega (arith, since, l));
+            }
+
+        pub held_next : Held (rs ++ (r ∷ [])) period (stretch_ended T P r.«module» r.time) (set P r.«module» word) O
         held_next =
             let low = (H.modules.each r.«module» h).low in
-            let k = is_open (H.modules.each r.«module» h).stretch pos in
+            let k = open-own in
             let stays = first_stays rs r r.«module» k.first in
             let runs : Runs rs r.«module» (some k.latest) (get_or P r.«module» 0 / 8 - 1) r.time = record { from = since; same = λ x l b. k.code x l } in
             held_more _ O
@@ -190,6 +213,10 @@ module _ (rs : List StateRecord) (r : StateRecord) where
 
 -- ---- before the first record
 
+pub states_none : (at : ℕ → StateRecord) → StatesSequenced (up_to at 0) 0
+unfolding up_to
+states_none at = sequenced_none state_key state_number StateFits (λ r. omega arith)
+
 pub held_none : (at : ℕ → StateRecord) (period : ℕ) → Held (up_to at 0) period (replicate 384 0) (replicate 64 0) (replicate 64 false)
 unfolding up_to own_time first_time code_at state_time count
 held_none at period = record {
@@ -200,18 +227,32 @@ held_none at period = record {
     each = λ m h. rw (get_or-replicate {A = ℕ} 64 m 0 0 h, get_or-replicate 64 m false false h) (record {
       early = omega arith;
       low = lit< tt;
-      stretch = fresh (record { next = refl; opening = refl; own = refl; first = refl; code = λ t. refl });
+      stretch = fresh (record { next = refl; state = refl; opening = refl; own = refl; first = refl; code = λ t. refl });
     });
   };
   sums = λ m h. rw (get_or-replicate {A = ℕ} 64 m 0 0 h) (record { totals = λ k l. get_or-replicate {A = ℕ} 384 (6 * m + k) 0 0 (omega arith) });
 }
 
+-- ---- the first ground met is the answer, and nothing more is owed
+
+pub refused_as : {rs : List StateRecord} {period modules : ℕ} {v : Verdict} {x : Refusal} {T U : List ℕ} → state_grounds period modules rs ≡ Err x → v ≡ Err x → Tallied rs period modules v T U
+refused_as q e = record {
+  answer = e ∙ sym q;
+  totals = λ a. absurd (refused-not (sym e ∙ a));
+  uptime = λ a. absurd (refused-not (sym e ∙ a));
+}
+
+-- where it is a record's
+pub stopped : (rs : List StateRecord) (period modules : ℕ) {x : Refusal} → each_of (state_ground period modules) rs ≡ Err x → state_grounds period modules rs ≡ Err x
+unfolding state_grounds
+stopped rs period modules e = rw e refl
+
 -- ---- the modules, at the end of the period
 
 -- the modules below d are opened, their last stretches are closed, and their uptimes are summed
 pub record Finishing (rs : List StateRecord) (period modules d : ℕ) (T U P : List ℕ) (O : List Bool) : Type 0 where
-  pub records : each_of (state_ground period modules) rs ≡ Accepted
-  pub openings : first_of (opening_ground rs) d ≡ Accepted
+  pub records : each_of (state_ground period modules) rs ≡ Ok tt
+  pub openings : first_of (opening_ground rs) d ≡ Ok tt
   pub totals : length T ≡ 384
   pub uptime : length U ≡ 64
   pub modules_held : Modules rs period P O
@@ -219,7 +260,7 @@ pub record Finishing (rs : List StateRecord) (period modules d : ℕ) (T U P : L
   pub rest : (m : ℕ) → d ≤ m → m < 64 → Sums rs T m (get_or P m 0 / 8 - 1)
 
 module _ {rs : List StateRecord} {period modules : ℕ} {T U P : List ℕ} {O : List Bool} where
-  pub finish_start : each_of (state_ground period modules) rs ≡ Accepted → length U ≡ 64 → Held rs period T P O → Finishing rs period modules 0 T U P O
+  pub finish_start : each_of (state_ground period modules) rs ≡ Ok tt → length U ≡ 64 → Held rs period T P O → Finishing rs period modules 0 T U P O
   finish_start a wide H = record {
     records = a;
     openings = first_none (opening_ground rs);
@@ -235,26 +276,31 @@ module _ {rs : List StateRecord} {period modules : ℕ} {T U P : List ℕ} {O : 
     opening-is = opening_of (F.modules_held.each d h).stretch
 
     -- the lowest module that is not opened
-    pub finish_stop : d < modules → get_or O d false ≡ false → ground 11 0 d true ≡ state_grounds period modules rs
+    pub finish_stop : {x : Refusal} → d < modules → ground NoOpening NoList d (not (get_or O d false)) ≡ Err x → state_grounds period modules rs ≡ Err x
     unfolding state_grounds opening_ground
-    finish_stop l e =
-        rw F.records
-        (sym (first_stop (opening_ground rs) modules d _ l F.openings (rw (← opening-is, e) refl)))
+    finish_stop {x} l e = rw F.records (first_stop (opening_ground rs) modules d x l F.openings (rw (← opening-is) e))
 
-    module _ (e : get_or O d false ≡ true) where
+    module _ (e : ground NoOpening NoList d (not (get_or O d false)) ≡ Ok tt) where
       stretch-of : Open rs d (get_or P d 0 / 8) (get_or P d 0 % 8) (get_or O d false)
-      stretch-of = is-opened (F.modules_held.each d h).stretch e
+      stretch-of = is-opened (F.modules_held.each d h).stretch (not-false _ (not-met NoOpening NoList d _ e))
 
-      pub opened_since : (0 < get_or P d 0 / 8) × (get_or P d 0 / 8 ≤ period)
-      opened_since = (stretch-of.next, (F.modules_held.each d h).early)
+      pub ending_last : period < 2 ^ 64 → Ending T P d period
+      ending_last l =
+          let M = F.modules_held.each d h in
+          record {
+            running = stretch-of.next;
+            state = M.low;
+            begun = omega (arith, M.early);
+            room = room (F.rest d (omega arith) h) _ M.low _ (omega (arith, M.early, l));
+          }
 
       abbrev closed : List ℕ
-      closed = totals_with T d (get_or P d 0 % 8) (period - (get_or P d 0 / 8 - 1))
+      closed = stretch_ended T P d period
 
       pub closed_sums : Sums rs closed d period
       closed_sums =
           sums_own T F.totals _ _ _ h (F.modules_held.each d h).low stretch-of.state refl
-          (record { from = omega (arith, opened_since.1); same = λ x l b. stretch-of.code x l })
+          (record { from = omega (arith, (F.modules_held.each d h).early); same = λ x l b. stretch-of.code x l })
           (F.rest d (omega arith) h)
 
       pub finish_more : Finishing rs period modules (d + 1) closed (set U d (uptime_in closed d)) P O
@@ -263,7 +309,7 @@ module _ {rs : List StateRecord} {period modules : ℕ} {T U P : List ℕ} {O : 
           let low = (F.modules_held.each d h).low in
           record {
             records = F.records;
-            openings = first_more (opening_ground rs) d F.openings (rw (← opening-is, e) refl);
+            openings = first_more (opening_ground rs) d F.openings (rw (← opening-is) e);
             totals = total_length T F.totals _ _ _ h low;
             uptime = length-set U _ _ ∙ F.uptime;
             modules_held = F.modules_held;
@@ -280,10 +326,10 @@ module _ {rs : List StateRecord} {period modules : ℕ} {T U P : List ℕ} {O : 
               let old = F.done m (omega (arith, ne)) in
               (sums_other T F.totals _ _ _ h low ne old.0, get_or-set_other U d m _ 0 (λ z. ne (sym z)) ∙ old.1)
 
-  pub finish_all : Finishing rs period modules modules T U P O → Tallied rs period modules Accepted T U
+  pub finish_all : {V : List ℕ} → Finishing rs period modules modules T U P O → V ≡ T → Tallied rs period modules (Ok tt) V U
   unfolding state_grounds
-  finish_all F = record {
+  finish_all F e = record {
     answer = rw (F.records, F.openings);
-    totals = λ _ m k h l. (F.done m h).0.totals k l;
+    totals = λ _ m k h l. rw e ((F.done m h).0.totals k l);
     uptime = λ _ m h. (F.done m h).1;
   }

@@ -10,8 +10,10 @@ use native.Mathlib.Decide.{ℕ_discrete, dec_lt}
 use lib.Dec.{eqb, leb, ltb}
 use borrow.Author.Tests.{eq-eqb, ne_eqb, le-leb, lt-ltb, le-ltb, eqb-true, not-false}
 use Rattle.records.specs.declared.StateRecord.{StateRecord}
-use Rattle.rules.specs.declared.Verdict.{Verdict}
-use Rattle.rules.specs.declared.Verdict.TheVariants.{Accepted}
+use Rattle.rules.specs.declared.Ground.TheVariants.{NoOpening}
+use Rattle.rules.specs.declared.LogList.TheVariants.{NoList}
+use Rattle.rules.specs.Grounds.{Verdict}
+use Rattle.std.specs.declared.result.Result.TheVariants.{Ok}
 use Rattle.rules.specs.Grounds.{first_of, in_turn, each_of}
 use Rattle.rules.specs.Time.{state_of, keep, code_at, is_state, count, state_time}
 use Rattle.rules.specs.RecordGrounds.{state_ground, first_time, is_opening, opening_ground, state_grounds}
@@ -75,15 +77,15 @@ module _ (period modules m t : ℕ) where
   abbrev turn : List StateRecord → ℕ → List StateRecord → Verdict
   turn earlier i rs = in_turn (state_ground period modules) earlier i rs
 
-  low : (earlier : List StateRecord) (i : ℕ) (r : StateRecord) (rs : List StateRecord) → turn earlier i (r ∷ rs) ≡ Accepted → r.code < 24
+  low : (earlier : List StateRecord) (i : ℕ) (r : StateRecord) (rs : List StateRecord) → turn earlier i (r ∷ rs) ≡ Ok tt → r.code < 24
   unfolding in_turn
   low earlier i r rs a = (sound period modules earlier i r (then-left (state_ground period modules earlier i r) _ a)).low
 
-  later : (earlier : List StateRecord) (i : ℕ) (r : StateRecord) (rs : List StateRecord) → turn earlier i (r ∷ rs) ≡ Accepted → turn (earlier ++ (r ∷ [])) (suc i) rs ≡ Accepted
+  later : (earlier : List StateRecord) (i : ℕ) (r : StateRecord) (rs : List StateRecord) → turn earlier i (r ∷ rs) ≡ Ok tt → turn (earlier ++ (r ∷ [])) (suc i) rs ≡ Ok tt
   unfolding in_turn
   later earlier i r rs a = then-right (state_ground period modules earlier i r) _ a
 
-  six-stays : (earlier : List StateRecord) (i : ℕ) (rs : List StateRecord) (found : Option ℕ) → turn earlier i rs ≡ Accepted → in_six found ≡ true → in_six (foldl (keep m t) found rs) ≡ true
+  six-stays : (earlier : List StateRecord) (i : ℕ) (rs : List StateRecord) (found : Option ℕ) → turn earlier i rs ≡ Ok tt → in_six found ≡ true → in_six (foldl (keep m t) found rs) ≡ true
   six-stays earlier i [] found a e = e
   six-stays earlier i (r ∷ rs) found a e =
       six-stays (earlier ++ (r ∷ [])) (suc i) rs (keep m t found r) (later earlier i r rs a) (go (eqb r.«module» m && leb r.time t))
@@ -92,7 +94,7 @@ module _ (period modules m t : ℕ) where
       go true = lt-ltb (state_of r.code) 6 (state-low r.code (low earlier i r rs a))
       go false = e
 
-  six-from : (earlier : List StateRecord) (i : ℕ) (rs : List StateRecord) (found : Option ℕ) → turn earlier i rs ≡ Accepted → first_time m rs ≡ some 0 → in_six (foldl (keep m t) found rs) ≡ true
+  six-from : (earlier : List StateRecord) (i : ℕ) (rs : List StateRecord) (found : Option ℕ) → turn earlier i rs ≡ Ok tt → first_time m rs ≡ some 0 → in_six (foldl (keep m t) found rs) ≡ true
   unfolding first_time
   six-from earlier i [] found a e = let z : ◌≡◌ {A = ℕ} 0 1 = cc in absurd (omega arith)
   six-from earlier i (r ∷ rs) found a e =
@@ -107,12 +109,12 @@ module _ (period modules m t : ℕ) where
       go false e rest = rest e
 
 -- the six state times of each module of accepted records add up to the period
-pub six_times_lem : (rs : List StateRecord) (period modules m : ℕ) → state_grounds period modules rs ≡ Accepted → m < modules → six_times rs period m ≡ period
+pub six_times_lem : (rs : List StateRecord) (period modules m : ℕ) → state_grounds period modules rs ≡ Ok tt → m < modules → six_times rs period m ≡ period
 unfolding state_grounds opening_ground code_at count
 six_times_lem rs period modules m a h =
-    let each : each_of (state_ground period modules) rs ≡ Accepted = then-left (each_of (state_ground period modules) rs) (first_of (opening_ground rs) modules) a in
+    let each : each_of (state_ground period modules) rs ≡ Ok tt = then-left (each_of (state_ground period modules) rs) (first_of (opening_ground rs) modules) a in
     let opened = first_all (opening_ground rs) modules (then-right (each_of (state_ground period modules) rs) (first_of (opening_ground rs) modules) a) m h in
-    let first : first_time m rs ≡ some 0 = opening-zero (first_time m rs) (not-false (is_opening (first_time m rs)) (not-met 11 0 m (not (is_opening (first_time m rs))) opened)) in
+    let first : first_time m rs ≡ some 0 = opening-zero (first_time m rs) (not-false (is_opening (first_time m rs)) (not-met NoOpening NoList m (not (is_opening (first_time m rs))) opened)) in
     six-count rs m period
     ∙ count-stretch (λ t. in_six (code_at rs m t)) true 0 period zero-le (λ t l u. six-from period modules m t [] 0 rs none each first)
     ∙ omega arith

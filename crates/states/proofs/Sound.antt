@@ -9,7 +9,9 @@ use native.Mathlib.Omega.{arith}
 use lib.Dec.{eqb, leb, ltb, leb-suc-suc}
 use borrow.Author.Tests.{le-ltb, leb-false, ltb-false}
 use Rattle.records.specs.declared.StateRecord.{StateRecord}
-use Rattle.rules.specs.declared.Verdict.TheVariants.{Accepted}
+use Rattle.std.specs.declared.result.Result.TheVariants.{Ok}
+use Rattle.rules.specs.declared.Ground.TheVariants.{Spare, StrayModule, StrayCode, Outside, Sequence}
+use Rattle.rules.specs.declared.LogList.TheVariants.{States}
 use Rattle.rules.specs.Grounds.{ground}
 use Rattle.rules.specs.RecordGrounds.{own_time, is_not_after, state_ground}
 use Rattle.rules.specs.Sequence.{just_before, is_after, state_key}
@@ -41,17 +43,17 @@ pub record Sound (period modules : ℕ) (earlier : List StateRecord) (r : StateR
   pub later : next_of (own_time r.«module» earlier) ≤ r.time
 
 module _ (period modules : ℕ) (earlier : List StateRecord) (i : ℕ) (r : StateRecord) where
-  pub sound : state_ground period modules earlier i r ≡ Accepted → Sound period modules earlier r
+  pub sound : state_ground period modules earlier i r ≡ Ok tt → Sound period modules earlier r
   unfolding state_ground
   sound a =
-      let a7 = then-right (ground 6 1 i (not (eqb r.spare 0))) _ a in
-      let a8 = then-right (ground 7 1 i (leb modules r.«module»)) _ a7 in
-      let a9 = then-right (ground 8 1 i (ltb 23 r.code)) _ a8 in
-      let a10 = then-right (ground 9 1 i (leb period r.time)) _ a9 in
-      let own = or_right (not (is_after state_key (just_before earlier) r)) (is_not_after r.time (own_time r.«module» earlier)) (not-met 10 1 i _ a10) in
+      let a7 = then-right (ground Spare States i (not (eqb r.spare 0))) _ a in
+      let a8 = then-right (ground StrayModule States i (leb modules r.«module»)) _ a7 in
+      let a9 = then-right (ground StrayCode States i (ltb 23 r.code)) _ a8 in
+      let a10 = then-right (ground Outside States i (leb period r.time)) _ a9 in
+      let own = or_right (not (is_after state_key (just_before earlier) r)) (is_not_after r.time (own_time r.«module» earlier)) (not-met Sequence States i _ a10) in
       record {
-        known = leb-false modules r.«module» (not-met 7 1 i _ (then-left (ground 7 1 i (leb modules r.«module»)) _ a7));
-        low = omega (arith, ltb-false 23 r.code (not-met 8 1 i _ (then-left (ground 8 1 i (ltb 23 r.code)) _ a8)));
-        inside = leb-false period r.time (not-met 9 1 i _ (then-left (ground 9 1 i (leb period r.time)) _ a9));
+        known = leb-false modules r.«module» (not-met StrayModule States i _ (then-left (ground StrayModule States i (leb modules r.«module»)) _ a7));
+        low = omega (arith, ltb-false 23 r.code (not-met StrayCode States i _ (then-left (ground StrayCode States i (ltb 23 r.code)) _ a8)));
+        inside = leb-false period r.time (not-met Outside States i _ (then-left (ground Outside States i (leb period r.time)) _ a9));
         later = ltb-false r.time (next_of (own_time r.«module» earlier)) (sym (is_not_after_lem r.time (own_time r.«module» earlier)) ∙ own);
       }

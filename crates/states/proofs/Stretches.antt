@@ -10,15 +10,26 @@ use native.Mathlib.Decide.{ℕ_discrete}
 use lib.Dec.{T, eqb, leb, leb→le, le→leb}
 use borrow.Author.Tests.{eq-eqb, ne_eqb, le-leb, lt-leb}
 use Rattle.records.specs.declared.StateRecord.{StateRecord}
-use Rattle.rules.specs.declared.Verdict.TheVariants.{Accepted}
+use Rattle.std.specs.declared.result.Result.TheVariants.{Ok}
 use Rattle.rules.specs.Grounds.{first_of, in_turn, each_of}
 use Rattle.rules.specs.RecordGrounds.{own_time, state_ground, opening_ground, state_grounds}
 use Rattle.rules.proofs.FirstGround.{then-left, then-right}
 use Rattle.rules.specs.Time.{keep, code_at, is_state, count, state_time}
-use Rattle.states.proofs.Table.{both_left, both_right, both}
 use Rattle.states.proofs.OneMore.{own_time_lem, own_other}
 use Rattle.states.proofs.Sound.{from_of, Sound, sound, from_next}
 use Rattle.states.proofs.Count.{count-stretch, count-alike}
+
+both_left : (a b : Bool) → T (a && b) → T a
+both_left true b t = tt
+both_left false b t = t
+
+both_right : (a b : Bool) → T (a && b) → T b
+both_right true b t = t
+both_right false b t = absurd t
+
+both : (a b : Bool) → T a → T b → T (a && b)
+both true b s t = t
+both false b s t = s
 
 -- the stretches of module m in state k, from u on, where its code is c at u
 abbrev pub stretches : List StateRecord → ℕ → ℕ → ℕ → Option ℕ → ℕ → ℕ
@@ -93,7 +104,7 @@ module _ (period m : ℕ) where
 
 -- the records of an accepted log rise
 module _ (period modules m : ℕ) where
-  rises-on : (earlier : List StateRecord) (i : ℕ) (rs : List StateRecord) → in_turn (state_ground period modules) earlier i rs ≡ Accepted → from_of (own_time m earlier) ≤ period
+  rises-on : (earlier : List StateRecord) (i : ℕ) (rs : List StateRecord) → in_turn (state_ground period modules) earlier i rs ≡ Ok tt → from_of (own_time m earlier) ≤ period
       → T (rises rs period m (from_of (own_time m earlier)))
   unfolding in_turn
   rises-on earlier i [] a l = le→leb (from_of (own_time m earlier)) period l
@@ -111,7 +122,7 @@ module _ (period modules m : ℕ) where
           (both (leb (from_of (own_time m earlier)) r.time) _ (le→leb (from_of (own_time m earlier)) r.time u) (rw own at rest (omega (arith, ok.inside))))
       pick (no ne) rest = rw (ne_eqb r.«module» m ne) (rw (own_other earlier r m ne) at rest l)
 
-  pub accepted_by_stretches : (rs : List StateRecord) → state_grounds period modules rs ≡ Accepted → (k : ℕ) → state_time rs period m k ≡ stretches rs period m k none 0
+  pub accepted_by_stretches : (rs : List StateRecord) → state_grounds period modules rs ≡ Ok tt → (k : ℕ) → state_time rs period m k ≡ stretches rs period m k none 0
   unfolding state_grounds own_time
   accepted_by_stretches rs a =
       by_stretches period m rs (rises-on [] 0 rs (then-left (each_of (state_ground period modules) rs) (first_of (opening_ground rs) modules) a) (omega arith))

@@ -1,16 +1,17 @@
 -- What the pass holds between two records, for the contracts of its private functions: the totals T, for each module one word in P, which has the least time that
 -- its next record may have and the state since its latest, and whether its first record was at 0, in O.
 -- Definitions only.
-use Rattle.std.specs.Prelude.{◌≡◌, Bool, false, List, ℕ, zero, suc, ◌+◌, ◌-◌, ◌*◌, ◌/◌, ◌%◌, ◌≤◌, ◌<◌, leb, get_or, set, length, replicate}
+use Rattle.std.specs.Prelude.{◌≡◌, Bool, false, List, ℕ, zero, suc, ◌+◌, ◌-◌, ◌*◌, ◌/◌, ◌%◌, ◌^◌, ◌≤◌, ◌<◌, leb, get_or, set, length, replicate}
 use Rattle.std.proofs.Math.Option.{none, some, IsSome}
 use Rattle.records.specs.declared.StateRecord.{StateRecord}
 use Rattle.records.specs.Log.{up_to}
-use Rattle.rules.specs.declared.Verdict.{Verdict}
-use Rattle.rules.specs.declared.Verdict.TheVariants.{Accepted}
+use Rattle.rules.specs.Grounds.{Verdict}
+use Rattle.std.specs.declared.result.Result.TheVariants.{Ok}
 use Rattle.rules.specs.Grounds.{each_of}
 use Rattle.rules.specs.Names.{productive, standby, engineering}
 use Rattle.rules.specs.Time.{state_of, code_at, state_time}
 use Rattle.rules.specs.Keys.{StatesSequenced}
+use Rattle.states.specs.declared.Tally.{Tally}
 use Rattle.rules.specs.RecordGrounds.{own_time, first_time, is_opening, state_ground}
 
 -- the totals once module m has been d ms in a state
@@ -32,8 +33,9 @@ abbrev pub uptime_in : List ℕ → ℕ → ℕ
 uptime_in T m = get_or T (6 * m + productive) 0 + get_or T (6 * m + standby) 0 + get_or T (6 * m + engineering) 0
 
 -- module m has no record yet
-pub record Unseen (rs : List StateRecord) (m n : ℕ) (o : Bool) : Type 0 where
+pub record Unseen (rs : List StateRecord) (m n s : ℕ) (o : Bool) : Type 0 where
   pub next : n ≡ 0
+  pub state : s ≡ 0
   pub opening : o ≡ false
   pub own : own_time m rs ≡ none
   pub first : first_time m rs ≡ none
@@ -50,7 +52,7 @@ pub record Open (rs : List StateRecord) (m n s : ℕ) (o : Bool) : Type 0 where
   pub code : (t : ℕ) → n - 1 ≤ t → code_at rs m t ≡ some latest
 
 pub data Stretch (rs : List StateRecord) (m n s : ℕ) (o : Bool) : Type 0 where
-  fresh : Unseen rs m n o → Stretch rs m n s o
+  fresh : Unseen rs m n s o → Stretch rs m n s o
   running : Open rs m n s o → Stretch rs m n s o
 
 -- module m's six totals are its state times up to u
@@ -74,13 +76,28 @@ pub record Held (rs : List StateRecord) (period : ℕ) (T P : List ℕ) (O : Lis
   pub modules : Modules rs period P O
   pub sums : (m : ℕ) → m < 64 → Sums rs T m (get_or P m 0 / 8 - 1)
 
+-- what a tally holds after the records rs
+pub record Holding (rs : List StateRecord) (period : ℕ) (t : Tally) : Type 0 where
+  pub sequenced : StatesSequenced rs t.before
+  pub held : Held rs period t.totals.now t.latest t.opened
+
+-- module m has an open stretch, which is not begun after `end` and has room in its total
+pub record Ending (T P : List ℕ) (m end : ℕ) : Type 0 where
+  pub running : 0 < get_or P m 0 / 8
+  pub state : get_or P m 0 % 8 < 6
+  pub begun : get_or P m 0 / 8 - 1 ≤ end
+  pub room : get_or T (6 * m + get_or P m 0 % 8) 0 + (end - (get_or P m 0 / 8 - 1)) < 2 ^ 64
+
+-- the totals once module m's open stretch has ended
+abbrev pub stretch_ended : List ℕ → List ℕ → ℕ → ℕ → List ℕ
+stretch_ended T P m end = totals_with T m (get_or P m 0 % 8) (end - (get_or P m 0 / 8 - 1))
+
 -- record i's answer v, and what is held where it passes
-pub record Stepped (at : ℕ → StateRecord) (period modules i : ℕ) (v : Verdict) (before : ℕ) (T P : List ℕ) (O : List Bool) : Type 0 where
+pub record Stepped (at : ℕ → StateRecord) (period modules i : ℕ) (v : Verdict) (t : Tally) : Type 0 where
   pub answer : v ≡ state_ground period modules (up_to at i) i (at i)
-  pub sequenced : v ≡ Accepted → StatesSequenced (up_to at (i + 1)) before
-  pub held : v ≡ Accepted → Held (up_to at (i + 1)) period T P O
+  pub held : v ≡ Ok tt → Holding (up_to at (i + 1)) period t
 
 -- the answer v to n records, and what is held where all pass
-pub record Scanned (at : ℕ → StateRecord) (period modules n : ℕ) (v : Verdict) (T P : List ℕ) (O : List Bool) : Type 0 where
+pub record Scanned (at : ℕ → StateRecord) (period modules n : ℕ) (v : Verdict) (t : Tally) : Type 0 where
   pub answer : v ≡ each_of (state_ground period modules) (up_to at n)
-  pub held : v ≡ Accepted → Held (up_to at n) period T P O
+  pub held : v ≡ Ok tt → Holding (up_to at n) period t

@@ -1,94 +1,179 @@
 // The pass over the state records of a log: it tests each record and sums the modules' state times on the way.
 #![tactic(auto)]
 
-ghost use Rattle.std.specs.Prelude.{◌≡◌, true, List, ◌+◌, ◌*◌, ◌^◌, ◌<◌, ◌≤◌, get_or, replicate};
+ghost use Rattle.std.specs.Prelude.{◌≡◌, List, ◌+◌, ◌*◌, ◌^◌, ◌<◌, ◌≤◌, get_or, replicate, true};
 ghost use Rattle.records.specs.declared.StateRecord.{StateRecord};
 ghost use Rattle.records.specs.Log.{state_at, up_to};
-ghost use Rattle.records.specs.Covers.{Covers};
-ghost use Rattle.rules.specs.Grounds.{ground};
-ghost use Rattle.rules.specs.Time.{states, state_of};
+ghost use Rattle.rules.specs.Time.{state_of};
 ghost use Rattle.rules.specs.Keys.{state_number, StateFits, StatesSequenced};
 ghost use Rattle.rules.specs.RecordGrounds.{state_ground};
 ghost use Rattle.states.specs.Tally.{Tallied};
-ghost use Rattle.states.specs.Held.{totals_with, is_uptime, uptime_marks, uptime_in, Held, Stepped, Scanned};
+ghost use Rattle.states.specs.State.{number};
+ghost use Rattle.states.specs.Held.{is_uptime, uptime_marks, uptime_in, Ending, stretch_ended, Holding, Stepped, Scanned};
 
-use records::{Header, StateRecord};
-use rules::{Refusal, Verdict};
+use records::{Header, StateRecord, StateRecords};
+use rules::{Ground, LogList, Refusal};
 
-// The six states.
-const PRODUCTIVE: u8 = 0;
-
-const STANDBY: u8 = 1;
-
-const ENGINEERING: u8 = 2;
-
-const SCHEDULED_DOWN: u8 = 3;
-
-const UNSCHEDULED_DOWN: u8 = 4;
-
-const NONSCHEDULED: u8 = 5;
+// The six states of E10.
+#[derive(Clone, Copy, PartialEq, Eq)]
+enum State {
+    Productive,
+    Standby,
+    Engineering,
+    ScheduledDown,
+    UnscheduledDown,
+    Nonscheduled,
+}
 
 // The state of each sub-state code.
-const STATES: [u8; 24] = [
-    PRODUCTIVE,
-    PRODUCTIVE,
-    PRODUCTIVE,
-    PRODUCTIVE,
-    PRODUCTIVE,
-    PRODUCTIVE,
-    STANDBY,
-    STANDBY,
-    STANDBY,
-    STANDBY,
-    STANDBY,
-    STANDBY,
-    ENGINEERING,
-    ENGINEERING,
-    SCHEDULED_DOWN,
-    SCHEDULED_DOWN,
-    SCHEDULED_DOWN,
-    SCHEDULED_DOWN,
-    UNSCHEDULED_DOWN,
-    UNSCHEDULED_DOWN,
-    UNSCHEDULED_DOWN,
-    UNSCHEDULED_DOWN,
-    NONSCHEDULED,
-    NONSCHEDULED,
+const STATES: [State; 24] = [
+    State::Productive,
+    State::Productive,
+    State::Productive,
+    State::Productive,
+    State::Productive,
+    State::Productive,
+    State::Standby,
+    State::Standby,
+    State::Standby,
+    State::Standby,
+    State::Standby,
+    State::Standby,
+    State::Engineering,
+    State::Engineering,
+    State::ScheduledDown,
+    State::ScheduledDown,
+    State::ScheduledDown,
+    State::ScheduledDown,
+    State::UnscheduledDown,
+    State::UnscheduledDown,
+    State::UnscheduledDown,
+    State::UnscheduledDown,
+    State::Nonscheduled,
+    State::Nonscheduled,
 ];
 
-// The state of a code. The table is lent, since a constant that is indexed is laid out anew at each use.
-fn state_of(table: &[u8; 24], code: usize) -> usize
-    requires { (table.now ≡ states) × (code < 24) }
-    ensures { (result ≡ state_of code) × (result < 6) }
-{
-    table[code] as usize
+impl State {
+    // The state of a code. The table is lent, since a constant that is indexed is laid out anew at each use.
+    fn of(code: usize) -> State
+        requires { code < 24 }
+        ensures { number result ≡ state_of code }
+    {
+        let table = &STATES;
+        table[code]
+    }
+
+    // Where a module's time in this state stands among its six totals.
+    fn number(self) -> usize
+        ensures { (result ≡ number self) × (result < 6) }
+    {
+        self as usize
+    }
+
+    // Whether it counts as uptime.
+    fn is_uptime(self) -> bool
+        ensures { result ≡ is_uptime (number self) }
+    {
+        match self {
+            State::Productive | State::Standby | State::Engineering => true,
+            _ => false,
+        }
+    }
 }
 
-// Adds a stretch of `length` ms in a state to module m's total of it.
-fn add_stretch(totals: &mut [u64; 384], m: usize, state: usize, length: u64)
-    requires { (m < 64) × (state < 6) × (get_or totals.old (6 * m + state) 0 + length < 2 ^ 64) }
-    ensures { totals.new ≡ totals_with totals.old m state length }
+// A record's time and module in one number above 0, by which records ascend. One number and no derived order: field by field was tried, and slower by 15 % on
+// the longest sample.
+fn number_of(r: StateRecord) -> u64
+    requires { StateFits r }
+    ensures { result ≡ state_number r }
 {
-    let at = 6 * m + state;
-    totals[at] += length;
+    (r.time + 1) * 64 + r.module as u64
 }
 
-// Whether a state counts as uptime, by the table's entry for a code: productive, standby and engineering do.
-fn is_uptime(entry: usize) -> bool
-    ensures { result ≡ is_uptime entry }
+// The first ground that record i meets. `before` is the number of the record before it, and 0, below every number, where there is none. Those before rise: so a
+// record above them is later than its own module's last.
+#[tactic(auto, unfolding(rules::specs::RecordGrounds::state_ground))]
+fn test(r: StateRecord, i: usize, h: Header, before: u64) -> Result<(), Refusal>
+    requires { StateFits r }
+    ensures { (earlier : List StateRecord) → StatesSequenced earlier before → result ≡ state_ground h.period h.modules earlier i r }
 {
-    entry <= ENGINEERING as usize
+    Ground::Spare.refuses(r.spare != 0, LogList::States, i)?;
+    Ground::StrayModule.refuses(h.modules <= r.module, LogList::States, i)?;
+    Ground::StrayCode.refuses(23 < r.code, LogList::States, i)?;
+    Ground::Outside.refuses(h.period <= r.time, LogList::States, i)?;
+    Ground::Sequence.refuses(number_of(r) <= before, LogList::States, i)
+}
+
+// What is held of the records passed.
+#[derive(Drop)]
+struct Tally<'a> {
+    totals: &'a mut [u64; 384],
+    // Of each module, in one word, eight times the least time that its next record may have, and the state that it is in since its latest; 0 where
+    // it has no record yet. An Option of a struct is twice as large.
+    latest: [u64; 64],
+    // Whether its first record is at 0: no bit of the word, where it would be carried over at every record.
+    opened: [bool; 64],
+    // The number of the record before, and 0 where there is none.
+    before: u64,
+}
+
+impl<'a> Tally<'a> {
+    // Ends module m's open stretch: its length is added to the total of its state.
+    fn end_stretch(&mut self, m: usize, end: u64)
+        requires module_bound { m < 64 }
+        requires ending { Ending self.old.totals.now self.old.latest m end }
+        ensures same_totals { self.new.totals.ghost_name ≡ self.old.totals.ghost_name }
+        ensures others { (self.new.latest ≡ self.old.latest) × (self.new.opened ≡ self.old.opened) × (self.new.before ≡ self.old.before) }
+        ensures totals { self.new.totals.now ≡ stretch_ended self.old.totals.now self.old.latest m end }
+    {
+        let word = self.latest[m];
+        let at = 6 * m + (word % 8) as usize;
+        self.totals[at] += end - (word / 8 - 1);
+    }
+
+    // Tests record i. Where it passes, its module's open stretch ends and the next begins.
+    #[tactic(auto, using(crate::proofs::Pass::module_fits, crate::proofs::Pass::time_fits))]
+    fn take(&mut self, log: StateRecords<'_>, i: usize) -> Result<(), Refusal>
+        requires listed { i < log.header.states }
+        requires held { Holding (up_to (state_at log.bytes.now) i) log.header.period self.old }
+        ensures same_totals { self.new.totals.ghost_name ≡ self.old.totals.ghost_name }
+        ensures stepped { Stepped (state_at log.entry.bytes.now) log.entry.header.period log.entry.header.modules i result self.new }
+    {
+        let r = log.record(i);
+        let m = r.module;
+        let t = r.time;
+        test(r, i, log.header, self.before)?;
+        if self.latest[m] == 0 {
+            self.opened[m] = t == 0;
+        } else {
+            self.end_stretch(m, t);
+        }
+        self.latest[m] = (t + 1) * 8 + State::of(r.code).number() as u64;
+        self.before = number_of(r);
+        Ok(())
+    }
+
+    // All records, one by one.
+    fn take_all(&mut self, log: StateRecords<'_>) -> Result<(), Refusal>
+        requires { Holding (up_to (state_at log.bytes.now) 0) log.header.period self.old }
+        ensures same_totals { self.new.totals.ghost_name ≡ self.old.totals.ghost_name }
+        ensures scanned { Scanned (state_at log.entry.bytes.now) log.entry.header.period log.entry.header.modules log.entry.header.states result self.new }
+    {
+        // By index, which a refusal names.
+        for i in 0..log.header.states {
+            self.take(log, i)?;
+        }
+        Ok(())
+    }
 }
 
 // For each state whether it counts as uptime, read from the table's entries.
-fn uptime_states(table: &[u8; 24]) -> [bool; 6]
-    requires { table.now ≡ states }
+fn uptime_states() -> [bool; 6]
     ensures { result ≡ uptime_marks 24 }
 {
     let mut counts = [false; 6];
-    for code in 0..24 {
-        let entry = state_of(table, code);
-        counts[entry] = is_uptime(entry);
+    for state in &STATES {
+        counts[state.number()] = state.is_uptime();
     }
     counts
 }
@@ -98,158 +183,42 @@ fn uptime_of(totals: &[u64; 384], counts: &[bool; 6], m: usize) -> u64
     requires { (m < 64) × (counts.now ≡ uptime_marks 24) × (uptime_in totals.now m < 2 ^ 64) }
     ensures { result ≡ uptime_in totals.now m }
 {
-    let mut sum: u64 = 0;
-    for k in 0..6 {
-        if counts[k] {
+    let mut sum = 0;
+    for (k, counted) in counts.iter().enumerate() {
+        if *counted {
             sum += totals[6 * m + k];
         }
     }
     sum
 }
 
-// State record i is refused.
-fn refused(number: usize, i: usize) -> Verdict
-    ensures { result ≡ ground number 1 i true }
-{
-    Verdict::Refused(Refusal {
-        number,
-        list: 1,
-        place: i,
-    })
-}
-
-// A record's time and module in one number above 0, by which records ascend.
-fn number_of(r: StateRecord) -> u64
-    requires { StateFits r }
-    ensures { result ≡ state_number r }
-{
-    (r.time + 1) * 64 + r.module as u64
-}
-
-// The first ground that record i meets. `before` is the number of the record before it, and 0 where there is none. Those before rise: so a record above them is
-// later than its own module's last.
-fn test(r: StateRecord, i: usize, h: Header, before: u64) -> Verdict
-    requires { StateFits r }
-    ensures { (earlier : List StateRecord) → StatesSequenced earlier before → result ≡ state_ground h.period h.modules earlier i r }
-{
-    let period = h.period;
-    let modules = h.modules;
-    let module = r.module;
-    let code = r.code;
-    let time = r.time;
-    if r.spare != 0 {
-        return refused(6, i);
-    }
-    if modules <= module {
-        return refused(7, i);
-    }
-    if 23 < code {
-        return refused(8, i);
-    }
-    if period <= time {
-        return refused(9, i);
-    }
-    if number_of(r) <= before {
-        return refused(10, i);
-    }
-    Verdict::Accepted
-}
-
-// Tests record i. Where it passes, its module's open stretch ends and the next begins. Of each module `latest` has, in one word, eight times the least time
-// that its next record may have, which is 0 where it has no record yet, and the table's entry for the code of its latest: the state that it is in since.
-// `before` is the number of the record before, and 0 where there is none.
-fn tally_record(
-    table: &[u8; 24],
-    log: &[u8],
-    h: Header,
-    i: usize,
-    before: &mut u64,
-    totals: &mut [u64; 384],
-    latest: &mut [u64; 64],
-    opened: &mut [bool; 64],
-) -> Verdict
-    requires table_value { table.now ≡ states }
-    requires covers { Covers log.now (10 + 6 * i + 6) }
-    requires states_sequenced { StatesSequenced (up_to (state_at log.now) i) before.old }
-    requires held { Held (up_to (state_at log.now) i) h.period totals.old latest.old opened.old }
-    ensures { Stepped (state_at log.now) h.period h.modules i result before.new totals.new latest.new opened.new }
-{
-    let r = records::state_within(log, i);
-    let m = r.module;
-    let t = r.time;
-    let word = latest[m];
-    let own = word / 8;
-    let v = test(r, i, h, *before);
-    if let Verdict::Refused(f) = v {
-        return Verdict::Refused(f);
-    }
-    if own == 0 {
-        opened[m] = t == 0;
-    } else {
-        add_stretch(totals, m, (word % 8) as usize, t - (own - 1));
-    }
-    latest[m] = (t + 1) * 8 + state_of(table, r.code) as u64;
-    *before = number_of(r);
-    Verdict::Accepted
-}
-
-// All records, one by one.
-fn tally_records(
-    table: &[u8; 24],
-    log: &[u8],
-    h: Header,
-    totals: &mut [u64; 384],
-    latest: &mut [u64; 64],
-    opened: &mut [bool; 64],
-) -> Verdict
-    requires table_value { table.now ≡ states }
-    requires covers { Covers log.now (10 + 6 * h.states) }
-    requires held { Held (up_to (state_at log.now) 0) h.period totals.old latest.old opened.old }
-    ensures { Scanned (state_at log.now) h.period h.modules h.states result totals.new latest.new opened.new }
-{
-    let states = h.states;
-    let mut before = 0;
-    for i in 0..states {
-        let v = tally_record(table, log, h, i, &mut before, totals, latest, opened);
-        if let Verdict::Refused(f) = v {
-            return Verdict::Refused(f);
-        }
-    }
-    Verdict::Accepted
-}
-
-// Tests the state records one by one and sums the modules' state times on the way, in one pass. Then the modules, the lowest first: each must be opened, and its last stretch ends with the period.
-// No buyer's call: the caller has tested the header and the length, and lends counters that are zero.
+// Tests the state records one by one and sums the modules' state times on the way, in one pass. Then the modules, the lowest first: each must be
+// opened, and its last stretch ends with the period.
+// No buyer's call: the caller has tested the header, and lends counters that are zero; two arrays, since a module has six totals and one uptime.
 pub fn tally_states(
-    log: &[u8],
-    h: Header,
+    log: StateRecords<'_>,
     totals: &mut [u64; 384],
     uptime: &mut [u64; 64],
-) -> Verdict
-    requires modules_bound { (h.modules ≤ 64) × Covers log.now (10 + 6 * h.states) }
+) -> Result<(), Refusal>
+    requires modules_bound { log.header.modules ≤ 64 }
     requires totals_value { (totals.old ≡ replicate 384 0) × (uptime.old ≡ replicate 64 0) }
-    ensures { Tallied (up_to (state_at log.now) h.states) h.period h.modules result totals.new uptime.new }
+    ensures { let h = log.entry.header in
+        Tallied (up_to (state_at log.entry.bytes.now) h.states) h.period h.modules result totals.new uptime.new }
 {
-    let table = STATES;
-    let mut latest = [0u64; 64];
-    let mut opened = [false; 64];
-    let v = tally_records(&table, log, h, totals, &mut latest, &mut opened);
-    if let Verdict::Refused(f) = v {
-        return Verdict::Refused(f);
+    let mut tally = Tally {
+        totals,
+        latest: [0; 64],
+        opened: [false; 64],
+        before: 0,
+    };
+    tally.take_all(log)?;
+    let counts = uptime_states();
+    let h = log.header;
+    // By index, which a refusal names.
+    for m in 0..h.modules {
+        Ground::NoOpening.refuses(!tally.opened[m], LogList::NoList, m)?;
+        tally.end_stretch(m, h.period);
+        uptime[m] = uptime_of(tally.totals, &counts, m);
     }
-    let counts = uptime_states(&table);
-    let modules = h.modules;
-    for m in 0..modules {
-        if !opened[m] {
-            return Verdict::Refused(Refusal {
-                number: 11,
-                list: 0,
-                place: m,
-            });
-        }
-        let word = latest[m];
-        add_stretch(totals, m, (word % 8) as usize, h.period - (word / 8 - 1));
-        uptime[m] = uptime_of(totals, &counts, m);
-    }
-    Verdict::Accepted
+    Ok(())
 }

@@ -8,13 +8,14 @@ use Prim.Native.Nat.{ℕ, ◌*◌, ◌≤◌, ◌<◌}
 use native.Mathlib.Nat.{mul-le-mul_left, mul-le-mul_right}
 use native.Mathlib.Omega.{arith}
 use lib.Dec.{ltb, eqb}
-use lib.ListN.{get_or}
 use borrow.Author.Tests.{ltb-false}
 use Rattle.records.specs.Log.{Log, header_of, standard_at, decode}
 use Rattle.e79.specs.Quantities.{Ordered, Portion}
 use Rattle.e79.specs.Printed.{rounded_of}
 use Rattle.e79.proofs.Printing.{rounded-nearest, rounded-le-one}
-use Rattle.rules.specs.declared.Verdict.TheVariants.{Accepted}
+use Rattle.std.specs.declared.result.Result.TheVariants.{Ok}
+use Rattle.rules.specs.declared.Ground.TheVariants.{Spare, NoTime, AboveStandard, OverCounted}
+use Rattle.rules.specs.declared.LogList.TheVariants.{Benchmarks}
 use Rattle.rules.specs.Grounds.{ground, first_of}
 use Rattle.rules.specs.Quantities.{of_tool, effective_time}
 use Rattle.rules.specs.Verdict.{verdict}
@@ -24,6 +25,7 @@ use Rattle.rules.proofs.Judged.{passed, judged_time_lem}
 use Rattle.rules.proofs.Risen.{lists-accepted}
 use Rattle.rules.proofs.SumLaws.{sum_same, sum-le}
 use Rattle.benchmarks.specs.declared.Benchmark.{Benchmark}
+use Rattle.benchmarks.specs.declared.Sums.{Sums}
 use Rattle.benchmarks.specs.Benchmarks.{standards_in, time_at, effective_judged, any_zero, any_above, benchmark_ground, ground_at, judged_time, of_all}
 use Rattle.benchmarks.specs.Taking.{sums_to}
 use Rattle.benchmarks.proofs.Taking.{count_is, time_is}
@@ -36,22 +38,22 @@ record Within (time judged : ℕ) (b : Benchmark) : Type 0 where
   added : b.added ≤ time
   units : b.units ≤ judged
 
-within : (i time judged : ℕ) (b : Benchmark) → benchmark_ground i time judged b ≡ Accepted → Within time judged b
+within : (i time judged : ℕ) (b : Benchmark) → benchmark_ground i time judged b ≡ Ok tt → Within time judged b
 unfolding benchmark_ground
 within i time judged b e =
     let rest = ltb time b.optimized || ltb time b.added in
-    let e12 = then-right (ground 6 4 i (not (eqb b.spare 0))) _ e in
-    let e20 = then-right (ground 12 4 i (any_zero b)) _ e12 in
-    let above = not-met 20 4 i (any_above time b) (then-left (ground 20 4 i (any_above time b)) _ e20) in
+    let e12 = then-right (ground Spare Benchmarks i (not (eqb b.spare 0))) _ e in
+    let e20 = then-right (ground NoTime Benchmarks i (any_zero b)) _ e12 in
+    let above = not-met AboveStandard Benchmarks i (any_above time b) (then-left (ground AboveStandard Benchmarks i (any_above time b)) _ e20) in
     let others = or_right (ltb time b.reference) rest above in
     record {
       reference = ltb-false time b.reference (or_left (ltb time b.reference) rest above);
       optimized = ltb-false time b.optimized (or_left (ltb time b.optimized) (ltb time b.added) others);
       added = ltb-false time b.added (or_right (ltb time b.optimized) (ltb time b.added) others);
-      units = ltb-false judged b.units (not-met 21 4 i (ltb judged b.units) (then-right (ground 20 4 i (any_above time b)) _ e20));
+      units = ltb-false judged b.units (not-met OverCounted Benchmarks i (ltb judged b.units) (then-right (ground AboveStandard Benchmarks i (any_above time b)) _ e20));
     }
 
-module _ (s : List ℕ) (accepted : verdict s ≡ Accepted) where
+module _ (s : List ℕ) (accepted : verdict s ≡ Ok tt) where
   abbrev log : Log
   log = decode s
 
@@ -65,7 +67,7 @@ module _ (s : List ℕ) (accepted : verdict s ≡ Accepted) where
       (sum_same _ _ h.standards (λ i l. ap (λ (t : ℕ). effective_judged log i * t) (time_is s h refl i l))
       ∙ judged_time_lem (standard_at s h) h.standards log.modules (λ u. u.effective) log.units (passed log.modules log.standards log.period log.units a.units))
 
-  module _ (at : ℕ → Benchmark) (tested : first_of (ground_at log at) (standards_in log) ≡ Accepted) where
+  module _ (at : ℕ → Benchmark) (tested : first_of (ground_at log at) (standards_in log) ≡ Ok tt) where
     each : (i : ℕ) → i < standards_in log → Within (time_at log i) (effective_judged log i) (at i)
     each i l = within i (time_at log i) (effective_judged log i) (at i) (first_all (ground_at log at) (standards_in log) tested i l)
 
@@ -89,8 +91,8 @@ module _ (s : List ℕ) (accepted : verdict s ≡ Accepted) where
       portion n h = record { part = omega (arith, h, o.effective_actual, o.actual_production, o.production_uptime, o.uptime_total); few = o.few }
 
       -- each sum may be divided by the total time
-      pub portions : (S : List ℕ) → S ≡ sums_to log at (standards_in log)
-          → Portion (get_or S 0 0) (of_tool log).total × Portion (get_or S 1 0) (of_tool log).total × Portion (get_or S 2 0) (of_tool log).total × Portion (get_or S 3 0) (of_tool log).total
+      pub portions : (S : Sums) → S ≡ sums_to log at (standards_in log)
+          → Portion S.reference (of_tool log).total × Portion S.optimized (of_tool log).total × Portion S.added (of_tool log).total × Portion S.units (of_tool log).total
       portions S e = rw e (portion _ reference-within, portion _ optimized-within, portion _ added-within, portion _ units-within)
 
       rounded : (n : ℕ) → n ≤ (of_tool log).effective → Rounded (rounded_of n (of_tool log).total) n (of_tool log).total

@@ -1,27 +1,26 @@
 -- How an answer stands in the arrays that a caller lends.
 -- Definitions only.
-use Rattle.std.specs.Prelude.{List, [], ◌∷◌, ℕ, Float}
+use Rattle.std.specs.Prelude.{List, [], ◌∷◌, ℕ, Float, Option, Some, None}
 use Rattle.std.specs.Float.{nan}
-use Rattle.e79.specs.declared.Efficiency.{Efficiency}
-use Rattle.e79.specs.declared.Efficiency.TheVariants.{Ratio, NoBase}
 use Rattle.e79.specs.declared.Figures.{Figures}
-use Rattle.rules.specs.declared.Verdict.{Verdict}
-use Rattle.rules.specs.declared.Verdict.TheVariants.{Accepted, Refused}
+use Rattle.rules.specs.Grounds.{Verdict}
+use Rattle.rules.specs.Refusals.{three_of}
+use Rattle.std.specs.declared.result.Result.TheVariants.{Ok, Err}
 
 -- number, list and place, and zeros where nothing is refused
 abbrev pub refusal_of : Verdict → List ℕ
-refusal_of Accepted = 0 ∷ 0 ∷ 0 ∷ []
-refusal_of (Refused x) = x.number ∷ x.list ∷ x.place ∷ []
+refusal_of (Ok tt) = 0 ∷ 0 ∷ 0 ∷ []
+refusal_of (Err x) = three_of x
 
 -- an efficiency's double, and NaN where it has no base
-abbrev pub ratio_of : Efficiency → Float
-ratio_of (Ratio x) = x
-ratio_of NoBase = nan
+abbrev pub ratio_of : Option Float → Float
+ratio_of (Some x) = x
+ratio_of None = nan
 
 -- 1 where an efficiency has a base, else 0
-abbrev pub base_of : Efficiency → ℕ
-base_of (Ratio x) = 1
-base_of NoBase = 0
+abbrev pub base_of : Option Float → ℕ
+base_of (Some x) = 1
+base_of None = 0
 
 -- availability, operational, rate, quality, OEE, product
 abbrev pub ratios_of : Figures → List Float

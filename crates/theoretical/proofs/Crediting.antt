@@ -1,45 +1,66 @@
 -- The unit records tested and credited, one by one.
 -- Assumes nothing.
-use mathlib.Core.Path.{◌≡◌, sym, ap, ◌∙◌}
+use mathlib.Core.Path.{◌≡◌, refl, sym, ap, ◌∙◌}
 use mathlib.Core.Bool.{not}
 use mathlib.Core.Option.{none, some}
 use mathlib.Core.List.{List, [], ◌∷◌, ◌++◌}
 use Prim.Native.Nat.{ℕ, ◌+◌, ◌*◌, ◌^◌, ◌≤◌, ◌<◌}
 use native.Mathlib.Nat.{mul-le-mul, add_assoc}
-use native.Mathlib.Decide.{ℕ_discrete}
+use native.Mathlib.Decide.{ℕ_discrete, dec_lt}
 use native.Mathlib.Omega.{arith}
 use lib.ListN.{length, get_or, set, replicate, length-set, length-replicate, get_or-replicate}
 use lib.Seq.{get_or-set_same, get_or-set_other}
-use borrow.Author.Tests.{eq-eqb, ne_eqb, le-ltb, lt-ltb}
+use lib.Dec.{leb, ltb}
+use borrow.Author.Tests.{eq-eqb, ne_eqb, le-ltb, lt-ltb, le-leb, lt-leb}
 use Rattle.records.specs.declared.Header.{Header}
 use Rattle.records.specs.declared.Standard.{Standard}
 use Rattle.records.specs.declared.UnitRecord.{UnitRecord}
-use Rattle.records.specs.Log.{up_to, unit_at}
-use Rattle.records.proofs.UpTo.{up_to_more}
-use Rattle.records.proofs.Widths.{unit-fits}
+use Rattle.records.specs.Fields.{unit_from}
+use Rattle.records.specs.Log.{up_to, standard_at, unit_at}
+use Rattle.records.proofs.Widths.{unit-fits, standard-time-low}
 use Rattle.rules.specs.declared.Placed.{Placed}
-use Rattle.rules.specs.declared.Refusal.{Refusal}
-use Rattle.rules.specs.declared.Verdict.{Verdict}
-use Rattle.rules.specs.declared.Verdict.TheVariants.{Accepted, Refused}
-use Rattle.rules.specs.Grounds.{ground, ◌then◌, first_of}
-use Rattle.rules.specs.Theoretical.{in_force, credit, theoretical_time}
-use Rattle.rules.specs.Sequence.{just_before, is_after, unit_key}
+use Rattle.rules.specs.declared.Ground.TheVariants.{NoStandard, Unsorted}
+use Rattle.rules.specs.declared.LogList.TheVariants.{Units}
+use Rattle.rules.specs.Grounds.{ground, ◌then◌}
+use Rattle.rules.specs.Theoretical.{last_in_force, in_force, credit, theoretical_time}
+use Rattle.std.specs.Prelude.{Some, None, true}
+use Rattle.rules.proofs.InForce.{the_one}
+use Rattle.rules.proofs.LastInForce.{last_in_force_lem}
+use Rattle.theoretical.specs.Listing.{found}
+use Rattle.theoretical.proofs.Chains.{none_found, some_found}
+use Rattle.rules.specs.Sequence.{is_rising, standard_key}
 use Rattle.rules.specs.Keys.{unit_number, UnitFits, UnitsSequenced}
-use Rattle.rules.specs.RecordGrounds.{is_none, unit_ground, unit_grounds}
-use Rattle.rules.proofs.Keys.{units-below, sequenced_none, sequenced_more}
-use Rattle.rules.proofs.FirstGround.{then-assoc, refused-not, first_none, first_more, first_stop, turn_range}
-use Rattle.theoretical.specs.Credits.{own_grounds, SumsSoFar, OneUnit, AllUnits}
+use Rattle.rules.specs.RecordGrounds.{is_none, unit_ground}
+use Rattle.rules.proofs.FirstGround.{then-assoc}
+use Rattle.theoretical.specs.Credits.{own_grounds, SumsSoFar}
 
--- the widths of a unit record's fields
-module _ (s : List ℕ) (h : Header) (i : ℕ) (u : UnitRecord) (e : u ≡ unit_at s h i) where
-  pub unit_widths : (u.«module» < 64) × (u.recipe < 1024) × (u.time < 2 ^ 35) × (u.actual < 65536) × (u.effective < 65536)
-  unit_widths =
+-- the record that begins at a byte is the log's, and its fields have their widths
+module _ (s : List ℕ) (h : Header) (i byte : ℕ) (u : UnitRecord) (e : u ≡ unit_from s (8 * byte)) (place : byte ≡ 10 + 6 * h.states + 10 * h.standards + 11 * i) where
+  pub read_at : u ≡ unit_at s h i
+  read_at = e ∙ ap (unit_from s) (omega arith)
+
+  pub widths : UnitFits u × (u.actual < 65536) × (u.effective < 65536)
+  widths =
       let f = unit-fits s (80 + 48 * h.states + 80 * h.standards + 88 * i) in
-      rw e (f.0, f.1.0, f.1.1.0, f.1.1.1.0, f.1.1.1.1.0)
+      rw read_at ((f.0, f.1.0, f.1.1.0), f.1.1.1.0, f.1.1.1.1.0)
+
+-- a standard in force is one of the log's
+pub short : (s : List ℕ) (h : Header) (n : ℕ) (ss : List Standard) → ss ≡ up_to (standard_at s h) n → (m recipe time : ℕ) (p : Placed) → in_force ss m recipe time ≡ some p → p.standard.theoretical < 134217728
+short s h n ss listed m recipe time p e =
+    let f = the_one (standard_at s h) m recipe time n p (rw listed at e) in
+    rw f.same (standard-time-low s h p.index)
+
+-- where the standards rise, what is looked up is in force
+module _ (ss : List Standard) (rising : is_rising standard_key ss ≡ true) (m recipe time : ℕ) where
+  pub none_in_force : None ≡ found (last_in_force ss m recipe time) → in_force ss m recipe time ≡ none
+  none_in_force e = sym (last_in_force_lem ss m recipe time rising) ∙ none_found _ e
+
+  pub one_in_force : (p : Placed) → Some p ≡ found (last_in_force ss m recipe time) → in_force ss m recipe time ≡ some p
+  one_in_force p e = sym (last_in_force_lem ss m recipe time rising) ∙ some_found _ p e
 
 -- one unit record's credit is below 2 ^ 43
-pub credit-low : (units theoretical : ℕ) → units < 65536 → theoretical < 134217728 → units * theoretical < 2 ^ 43
-credit-low units theoretical h l = omega (arith, mul-le-mul {n₁ = units} {m₁ = theoretical} {n₂ = 65535} {m₂ = 134217727} (omega arith) (omega arith))
+pub credit_low : (units theoretical : ℕ) → units < 65536 → theoretical < 134217728 → units * theoretical < 2 ^ 43
+credit_low units theoretical h l = omega (arith, mul-le-mul {n₁ = units} {m₁ = theoretical} {n₂ = 65535} {m₂ = 134217727} (omega arith) (omega arith))
 
 -- ---- one more unit record
 
@@ -71,107 +92,40 @@ module _ (f : UnitRecord → ℕ) (ss : List Standard) where
         → (m : ℕ) → m < 64 → get_or (set A u.«module» (get_or A u.«module» 0 + f u * p.standard.theoretical)) m 0 ≤ (i + 1) * 2 ^ 43
     low_more i few short h m l =
         elim (ℕ_discrete u.«module» m) [
-          | yes q ↦ rw (← q, get_or-set_same A u.«module» (get_or A u.«module» 0 + f u * p.standard.theoretical) 0 (omega arith)) (omega (arith, h u.«module» low, credit-low (f u) p.standard.theoretical few short))
+          | yes q ↦ rw (← q, get_or-set_same A u.«module» (get_or A u.«module» 0 + f u * p.standard.theoretical) 0 (omega arith)) (omega (arith, h u.«module» low, credit_low (f u) p.standard.theoretical few short))
           | no q ↦ rw (get_or-set_other A u.«module» m (get_or A u.«module» 0 + f u * p.standard.theoretical) 0 (λ e. q (sym e))) (omega (arith, h m l))
         ]
 
--- ---- one unit record tested
-
--- 15 and 19, behind the tests that look at the record alone
-abbrev last-tests : List Standard → List UnitRecord → ℕ → UnitRecord → Verdict
-last-tests ss us i u = ground 15 3 i (is_none (in_force ss u.«module» u.recipe u.time)) then ground 19 3 i (not (is_after unit_key (just_before us) u))
-
-own-then : (period modules : ℕ) (ss : List Standard) (us : List UnitRecord) (i : ℕ) (u : UnitRecord) → unit_ground period modules ss us i u ≡ own_grounds period modules i u then last-tests ss us i u
-unfolding unit_ground own_grounds
-own-then period modules ss us i u = sym (simp then-assoc)
-
-module _ (period modules : ℕ) (ss : List Standard) (at : ℕ → UnitRecord) (i : ℕ) (u : UnitRecord) (eu : u ≡ at i) (v : Verdict) (ev : v ≡ own_grounds period modules i u) where
-  -- refused for itself
-  pub unit_own : (x : Refusal) → v ≡ Refused x → (before : ℕ) (A E : List ℕ) → OneUnit period modules ss at i v before A E
-  unit_own x e before A E =
+module _ (ss : List Standard) (us : List UnitRecord) (i : ℕ) (u : UnitRecord) (p : Placed) (low : u.«module» < 64) (found : in_force ss u.«module» u.recipe u.time ≡ some p)
+    (few : u.actual < 65536) (fewer : u.effective < 65536) (short : p.standard.theoretical < 134217728) where
+  pub summed_more : (A E : List ℕ) → SumsSoFar ss us i A E
+      → SumsSoFar ss (us ++ (u ∷ [])) (i + 1) (set A u.«module» (get_or A u.«module» 0 + u.actual * p.standard.theoretical)) (set E u.«module» (get_or E u.«module» 0 + u.effective * p.standard.theoretical))
+  summed_more A E sums =
       record {
-        answer = e ∙ sym (rw (← eu) (own-then period modules ss (up_to at i) i u ∙ ap (λ (w : Verdict). w then last-tests ss (up_to at i) i u) (sym ev ∙ e)));
-        sequenced = λ f. absurd (refused-not (sym e ∙ f));
-        summed = λ f. absurd (refused-not (sym e ∙ f));
-      }
-
-  decided : v ≡ Accepted → unit_ground period modules ss (up_to at i) i (at i) ≡ last-tests ss (up_to at i) i u
-  decided e = rw (← eu) (own-then period modules ss (up_to at i) i u ∙ ap (λ (w : Verdict). w then last-tests ss (up_to at i) i u) (sym ev ∙ e))
-
-  -- refused for 15 or 19
-  unit-refused : (x : Refusal) (w : Verdict) → w ≡ Refused x → v ≡ Accepted → last-tests ss (up_to at i) i u ≡ Refused x → (before : ℕ) (A E : List ℕ) → OneUnit period modules ss at i w before A E
-  unit-refused x w ew e h before A E = record { answer = ew ∙ sym (decided e ∙ h); sequenced = λ f. absurd (refused-not (sym ew ∙ f)); summed = λ f. absurd (refused-not (sym ew ∙ f)) }
-
-  pub unit_none : v ≡ Accepted → in_force ss u.«module» u.recipe u.time ≡ none → (w : Verdict) → w ≡ Refused (record { number = 15; list = 3; place = i }) → (before : ℕ) (A E : List ℕ) → OneUnit period modules ss at i w before A E
-  unit_none e h w ew = unit-refused _ w ew e (rw h)
-
-  module _ (e : v ≡ Accepted) (p : Placed) (h : in_force ss u.«module» u.recipe u.time ≡ some p) (before : ℕ) (q : UnitsSequenced (up_to at i) before) (fits : UnitFits u) where
-    pub unit_unsorted : unit_number u ≤ before → (w : Verdict) → w ≡ Refused (record { number = 19; list = 3; place = i }) → (before' : ℕ) (A E : List ℕ) → OneUnit period modules ss at i w before' A E
-    unit_unsorted l w ew = unit-refused _ w ew e (rw (h, q.next u fits, le-ltb before (unit_number u) l))
-
-    pub unit_credited : before < unit_number u → u.actual < 65536 → u.effective < 65536 → p.standard.theoretical < 134217728
-        → (A E : List ℕ) → SumsSoFar ss (up_to at i) i A E
-        → (before' : ℕ) (A' E' : List ℕ) → before' ≡ unit_number u → A' ≡ set A u.«module» (get_or A u.«module» 0 + u.actual * p.standard.theoretical) → E' ≡ set E u.«module» (get_or E u.«module» 0 + u.effective * p.standard.theoretical)
-        → OneUnit period modules ss at i Accepted before' A' E'
-    unit_credited l few few' short A E sums before' A' E' el ea ee =
-        let after = q.next u fits ∙ lt-ltb before (unit_number u) l in
-        record {
-          answer = sym (decided e ∙ rw (h, after));
-          sequenced = λ f. rw (el, up_to_more at i, ← eu) (sequenced_more unit_key unit_number UnitFits units-below (up_to at i) before u q fits after);
-          summed = λ f. rw (ea, ee, up_to_more at i, ← eu) more;
-        }
-      where
-        more : SumsSoFar ss (up_to at i ++ (u ∷ [])) (i + 1) (set A u.«module» (get_or A u.«module» 0 + u.actual * p.standard.theoretical)) (set E u.«module» (get_or E u.«module» 0 + u.effective * p.standard.theoretical))
-        more =
+        sized = (length-set A _ _ ∙ sums.sized.0, length-set E _ _ ∙ sums.sized.1);
+        low = λ m l. (
+          low_more (λ u. u.actual) ss us u p A sums.sized.0 low found i few short (λ k q. (sums.low k q).0) m l,
+          low_more (λ u. u.effective) ss us u p E sums.sized.1 low found i fewer short (λ k q. (sums.low k q).1) m l,
+        );
+        credited =
             record {
-              sized = (length-set A _ _ ∙ sums.sized.0, length-set E _ _ ∙ sums.sized.1);
-              low = λ m l. (
-                low_more (λ u. u.actual) ss (up_to at i) u p A sums.sized.0 fits.0 h i few short (λ k q. (sums.low k q).0) m l,
-                low_more (λ u. u.effective) ss (up_to at i) u p E sums.sized.1 fits.0 h i few' short (λ k q. (sums.low k q).1) m l,
-              );
-              credited =
-                  record {
-                    actual = sum_more (λ u. u.actual) ss (up_to at i) u p A sums.sized.0 fits.0 h sums.credited.actual;
-                    effective = sum_more (λ u. u.effective) ss (up_to at i) u p E sums.sized.1 fits.0 h sums.credited.effective;
-                  };
-            }
-
--- ---- all of them, one by one
-
-abbrev tests : ℕ → ℕ → List Standard → (ℕ → UnitRecord) → ℕ → Verdict
-tests period modules ss at i = unit_ground period modules ss (up_to at i) i (at i)
-
--- the first i were tested, passed and credited
-pub record CreditedTo (period modules : ℕ) (ss : List Standard) (at : ℕ → UnitRecord) (n i before : ℕ) (A E : List ℕ) : Type 0 where
-  pub within : i ≤ n
-  pub fine : first_of (tests period modules ss at) i ≡ Accepted
-  pub sequenced : UnitsSequenced (up_to at i) before
-  pub summed : SumsSoFar ss (up_to at i) i A E
-
-module _ (period modules : ℕ) (ss : List Standard) (at : ℕ → UnitRecord) (n : ℕ) where
-  pub credited_none : (A E : List ℕ) → SumsSoFar ss (up_to at 0) 0 A E → CreditedTo period modules ss at n 0 0 A E
-  unfolding up_to
-  credited_none A E s = record { within = omega arith; fine = first_none (tests period modules ss at); sequenced = sequenced_none unit_key unit_number UnitFits (λ u. omega arith); summed = s }
-
-  pub credited_step : (i before : ℕ) (A E : List ℕ) → i < n → CreditedTo period modules ss at n i before A E → (v : Verdict) (before' : ℕ) (A' E' : List ℕ) → OneUnit period modules ss at i v before' A' E' → v ≡ Accepted
-      → CreditedTo period modules ss at n (i + 1) before' A' E'
-  credited_step i before A E h c v before' A' E' u e =
-      record { within = omega arith; fine = first_more (tests period modules ss at) i c.fine (sym u.answer ∙ e); sequenced = u.sequenced e; summed = u.summed e }
-
-  pub credited_stop : (i before : ℕ) (A E : List ℕ) → i < n → CreditedTo period modules ss at n i before A E → (v : Verdict) (before' : ℕ) (A' E' : List ℕ) → OneUnit period modules ss at i v before' A' E' → (x : Refusal) → v ≡ Refused x
-      → AllUnits period modules ss (up_to at n) v A' E'
-  unfolding unit_grounds
-  credited_stop i before A E h c v before' A' E' u x e =
-      record {
-        answer = e ∙ sym (turn_range (unit_ground period modules ss) at n ∙ first_stop (tests period modules ss at) n i x h c.fine (sym u.answer ∙ e));
-        credited = λ f. absurd (refused-not (sym e ∙ f));
+              actual = sum_more (λ u. u.actual) ss us u p A sums.sized.0 low found sums.credited.actual;
+              effective = sum_more (λ u. u.effective) ss us u p E sums.sized.1 low found sums.credited.effective;
+            };
       }
 
-  pub credited_all : (i before : ℕ) (A E : List ℕ) → n ≤ i → CreditedTo period modules ss at n i before A E → AllUnits period modules ss (up_to at n) Accepted A E
-  unfolding unit_grounds
-  credited_all i before A E h c =
-      let q : i ≡ n = omega (arith, c.within) in
-      record { answer = sym (turn_range (unit_ground period modules ss) at n ∙ rw q at c.fine); credited = λ e. rw q at c.summed.credited }
+-- ---- one unit record tested, by its number
+
+not-below : (b n : ℕ) → not (ltb b n) ≡ leb n b
+not-below b n = elim (dec_lt b n) [ yes h ↦ rw (lt-ltb b n h, lt-leb n b h) refl | no h ↦ rw (le-ltb b n (omega arith), le-leb n b (omega arith)) refl ]
+
+pub unit_by_number : (period modules : ℕ) (ss : List Standard) (earlier : List UnitRecord) (i before : ℕ) (u : UnitRecord) → UnitFits u → UnitsSequenced earlier before
+    → unit_ground period modules ss earlier i u
+    ≡ (own_grounds period modules i u
+    then ground NoStandard Units i (is_none (in_force ss u.«module» u.recipe u.time))
+    then ground Unsorted Units i (leb (unit_number u) before))
+unfolding unit_ground own_grounds
+unit_by_number period modules ss earlier i before u fit q = rw (q.next u fit, not-below before (unit_number u)) (sym (simp then-assoc))
 
 -- sums that start at zero
 pub summed-none : (ss : List Standard) (at : ℕ → UnitRecord) (A E : List ℕ) → A ≡ replicate 64 0 → E ≡ replicate 64 0 → SumsSoFar ss (up_to at 0) 0 A E

@@ -1,3 +1,4 @@
-pub mod Walks
-pub mod Listings
+pub mod Chains
+pub mod Testing
+pub mod Turns
 pub mod Crediting

@@ -1,17 +1,14 @@
--- What the working arrays hold of the first n standards: the start of each, S, its theoretical time, T, its module and recipe, P, for each bin where its last standard
--- is, L, and for each standard where the last one ahead of it in its bin is, A.
+-- What a listing holds: the standards in their sequence, and where the last one of each bin is.
 -- Definitions only.
-use Rattle.std.specs.Prelude.{◌≡◌, Bool, cond, List, ℕ, zero, suc, ◌+◌, ◌*◌, ◌/◌, ◌%◌, ◌≤◌, ◌<◌, eqb, length, get_or}
-use Rattle.std.proofs.Math.Option.{Option, none, some}
+use Rattle.std.specs.Prelude.{◌≡◌, Bool, List, ℕ, ◌+◌, ◌*◌, ◌/◌, ◌%◌, ◌≤◌, ◌<◌, eqb, get_or, set, Option, Some, None}
+use Rattle.std.proofs.Math.Option as math
+use Rattle.std.proofs.Math.Option.{none, some}
 use Rattle.records.specs.declared.Standard.{Standard}
 use Rattle.records.specs.Log.{up_to}
 use Rattle.rules.specs.declared.Placed.{Placed}
-use Rattle.rules.specs.declared.Verdict.{Verdict}
-use Rattle.rules.specs.declared.Verdict.TheVariants.{Accepted}
-use Rattle.rules.specs.Keys.{StandardsSequenced}
-use Rattle.rules.specs.RecordGrounds.{standard_ground, standard_grounds}
-use Rattle.theoretical.specs.declared.Lookup.{Lookup}
-use Rattle.theoretical.specs.declared.Lookup.TheVariants.{Found, Nothing}
+use Rattle.rules.specs.Theoretical.{placed_from, last_where}
+use Rattle.theoretical.specs.declared.listing.Entry.{Entry}
+use Rattle.theoretical.specs.declared.listing.Entries.{Entries}
 
 -- a module and a recipe in one number
 abbrev pub pair_of : ℕ → ℕ → ℕ
@@ -25,46 +22,38 @@ bin_of pair = pair * 83 / 64 % 1024
 abbrev pub is_in : ℕ → Standard → Bool
 is_in bin s = eqb (bin_of (pair_of s.«module» s.recipe)) bin
 
--- one more than the index of the last of the first n standards that passes a test, and 0 where none does
-unfoldable pub last_of : (Standard → Bool) → (ℕ → Standard) → ℕ → ℕ
-last_of test at zero = 0
-last_of test at (suc n) = cond (test (at n)) (suc n) (last_of test at n)
+-- the last standard of a list that passes a test, or none
+abbrev pub last_placed : (Standard → Bool) → List Standard → math.Option Placed
+last_placed test ss = last_where (λ p. test p.standard) (placed_from 0 ss)
 
--- what each array says
-pub record Starts (at : ℕ → Standard) (n : ℕ) (S : List ℕ) : Type 0 where
+-- as it is answered
+abbrev pub found : math.Option Placed → Option Placed
+found none = None
+found (some p) = Some p
+
+-- where it is: one more than its index, and 0 for none
+abbrev pub link_to : math.Option Placed → ℕ
+link_to none = 0
+link_to (some p) = p.index + 1
+
+-- the standard of an entry
+abbrev pub standard_of : Entry → Standard
+standard_of e = record { «module» = e.pair / 1024; recipe = e.pair % 1024; start = e.start; theoretical = e.theoretical; spare = 0 }
+
+-- entry i
+abbrev pub entry_of : Entries → ℕ → Entry
+entry_of E i = record { start = get_or E.starts i 0; theoretical = get_or E.times i 0; pair = get_or E.pairs i 0 }
+
+-- the entries once i is this one
+abbrev pub with_entry : Entries → ℕ → Entry → Entries
+with_entry E i e = record { starts = set E.starts i e.start; times = set E.times i e.theoretical; pairs = set E.pairs i e.pair }
+
+-- the standards of the first n entries
+abbrev pub listed : Entries → ℕ → List Standard
+listed E n = up_to (λ i. standard_of (entry_of E i)) n
+
+-- by L each bin's last standard is found, and by A from each standard the last one ahead of it in its bin
+pub record Chained (E : Entries) (A : List ℕ) (n : ℕ) (L : List ℕ) : Type 0 where
   pub few : n ≤ 512
-  pub starts : (i : ℕ) → i < n → get_or S i 0 ≡ (at i).start
-
-pub record Pairs (at : ℕ → Standard) (n : ℕ) (P : List ℕ) : Type 0 where
-  pub few : n ≤ 512
-  pub pairs : (i : ℕ) → i < n → get_or P i 0 ≡ pair_of (at i).«module» (at i).recipe
-
--- all that each standard says; none of them has a spare bit
-pub record Held (at : ℕ → Standard) (n : ℕ) (S T P : List ℕ) : Type 0 where
-  pub starting : Starts at n S
-  pub paired : Pairs at n P
-  pub times : (i : ℕ) → i < n → get_or T i 0 ≡ (at i).theoretical
-  pub plain : (i : ℕ) → i < n → (at i).spare ≡ 0
-
--- and where to look for it
-pub record Listing (at : ℕ → Standard) (n : ℕ) (S T P A L : List ℕ) : Type 0 where
-  pub sized : (length S ≡ 512) × (length T ≡ 512) × (length P ≡ 512) × (length A ≡ 512) × (length L ≡ 1024)
-  pub held : Held at n S T P
-  pub aheads : (i : ℕ) → i < n → get_or A i 0 ≡ last_of (is_in (bin_of (pair_of (at i).«module» (at i).recipe))) at i
-  pub lasts : (bin : ℕ) → bin < 1024 → get_or L bin 0 ≡ last_of (is_in bin) at n
-
--- standard i tested, and listed where it passes
-pub record Added (period modules : ℕ) (at : ℕ → Standard) (i : ℕ) (r : Verdict) (before : ℕ) (S T P A L : List ℕ) : Type 0 where
-  pub answer : r ≡ standard_ground period modules (up_to at i) i (at i)
-  pub sequenced : r ≡ Accepted → StandardsSequenced (up_to at (i + 1)) before
-  pub listing : r ≡ Accepted → Listing at (i + 1) S T P A L
-
--- all n standards tested and listed
-pub record AllListed (period modules : ℕ) (at : ℕ → Standard) (n : ℕ) (r : Verdict) (S T P A L : List ℕ) : Type 0 where
-  pub answer : r ≡ standard_grounds period modules (up_to at n)
-  pub listing : r ≡ Accepted → Listing at n S T P A L
-
--- a standard, or none, as the lookup answers it
-abbrev pub lookup_of : Option Placed → Lookup
-lookup_of none = Nothing
-lookup_of (some p) = Found p
+  pub aheads : (i : ℕ) → i < n → get_or A i 0 ≡ link_to (last_placed (is_in (bin_of (get_or E.pairs i 0))) (listed E i))
+  pub lasts : (bin : ℕ) → bin < 1024 → get_or L bin 0 ≡ link_to (last_placed (is_in bin) (listed E n))

@@ -1,362 +1,95 @@
 // Credits each unit with the theoretical time in force when it was made: the standards are tested and listed once, then the unit records are tested and summed.
 #![tactic(auto)]
 
-ghost use Rattle.std.specs.Prelude.{◌≡◌, true, ◌+◌, ◌*◌, ◌^◌, ◌<◌, ◌≤◌, leb, get_or, set, replicate};
+mod listing;
+
+ghost use Rattle.std.specs.Prelude.{◌≡◌, true, ◌+◌, ◌*◌, ◌^◌, ◌<◌, ◌≤◌, [], get_or, set, replicate, IfOk};
 ghost use Rattle.records.specs.Log.{up_to, standard_at, unit_at};
-ghost use Rattle.records.specs.Covers.{Covers};
-ghost use Rattle.rules.specs.Theoretical.{placed, is_for, has_begun, last_in_force};
+ghost use Rattle.records.specs.Whole.{units_begin};
 ghost use Rattle.rules.specs.Sequence.{is_rising, standard_key};
 ghost use Rattle.rules.specs.Keys.{standard_number, StandardFits, StandardsSequenced, unit_number, UnitFits, UnitsSequenced};
-ghost use Rattle.rules.specs.RecordGrounds.{is_among, standard_ground};
-ghost use Rattle.theoretical.specs.Listing.{pair_of, bin_of, last_of, Starts, Pairs, Held, Listing, Added, AllListed, lookup_of};
-ghost use Rattle.theoretical.specs.Credits.{own_grounds, SumsSoFar, OneUnit, AllUnits, Units};
+ghost use Rattle.rules.specs.RecordGrounds.{standard_ground, standard_grounds, unit_ground, unit_grounds};
+ghost use Rattle.theoretical.specs.Credits.{own_grounds, Credited, SumsSoFar, UnitsCredited};
 
-use records::{Header, Standard, UnitRecord};
-use rules::{Placed, Refusal, Verdict};
+pub use listing::Standards;
+use records::{Header, Standard, StandardRecords, UnitRecord, UnitRecords};
+use rules::{Ground, LogList, Refusal};
 
-// What looking up a standard answers: a standard with its index, or none.
-#[derive(Clone, Copy)]
-pub enum Lookup {
-    Found(Placed),
-    Nothing,
-}
-
-fn refused(number: usize, list: usize, place: usize) -> Verdict
-    ensures { result ≡ Verdict.Refused (record { number = number; list = list; place = place }) }
-{
-    Verdict::Refused(Refusal {
-        number,
-        list,
-        place,
-    })
-}
-
-// Whether standard i starts at or before a time.
-fn starts_by(log: &[u8], h: Header, n: usize, starts: &[u64; 512], i: usize, time: u64) -> bool
-    requires starts { Starts (standard_at log.now h) n starts.now }
-    requires i_lt_n { i < n }
-    ensures { result ≡ leb (standard_at log.now h i).start time }
-{
-    starts[i] <= time
-}
-
-// A module and a recipe in one number.
-fn pair_of(module: usize, recipe: usize) -> u16
-    requires { («module» < 64) × (recipe < 1024) }
-    ensures { result ≡ pair_of «module» recipe }
-{
-    (module * 1024 + recipe) as u16
-}
-
-// Whether standard i is for the module and the recipe.
-fn is_for(
-    log: &[u8],
-    h: Header,
-    n: usize,
-    pairs: &[u16; 512],
-    i: usize,
-    module: usize,
-    recipe: usize,
-) -> bool
-    requires pairs { Pairs (standard_at log.now h) n pairs.now }
-    requires i_lt_n { (i < n) × («module» < 64) × (recipe < 1024) }
-    ensures { result ≡ is_for «module» recipe (standard_at log.now h i) }
-{
-    pairs[i] == pair_of(module, recipe)
-}
-
-// Whether standard i is for the module and the recipe and starts at or before the time.
-fn has_begun(
-    log: &[u8],
-    h: Header,
-    n: usize,
-    starts: &[u64; 512],
-    pairs: &[u16; 512],
-    i: usize,
-    module: usize,
-    recipe: usize,
-    time: u64,
-) -> bool
-    requires starts { Starts (standard_at log.now h) n starts.now × Pairs (standard_at log.now h) n pairs.now }
-    requires i_lt_n { (i < n) × («module» < 64) × (recipe < 1024) }
-    ensures { result ≡ has_begun «module» recipe time (standard_at log.now h i) }
-{
-    if starts_by(log, h, n, starts, i, time) {
-        is_for(log, h, n, pairs, i, module, recipe)
-    } else {
-        false
-    }
-}
-
-// Standard i, with its index.
-fn placed_at(
-    log: &[u8],
-    h: Header,
-    n: usize,
-    starts: &[u64; 512],
-    times: &[u32; 512],
-    pairs: &[u16; 512],
-    i: usize,
-) -> Placed
-    requires held { Held (standard_at log.now h) n starts.now times.now pairs.now }
-    requires i_lt_n { i < n }
-    ensures { result ≡ placed i (standard_at log.now h i) }
-{
-    let pair = pairs[i] as usize;
-    let standard = Standard {
-        module: pair / 1024,
-        recipe: pair % 1024,
-        start: starts[i],
-        theoretical: times[i] as u64,
-        spare: 0,
-    };
-    Placed { index: i, standard }
-}
-
-// The walk over the first `from` standards, from the last of them towards the front of the list: the first on the way that is for the module and the recipe and
-// starts at or before the time, or none.
-fn walk_back(
-    log: &[u8],
-    h: Header,
-    n: usize,
-    starts: &[u64; 512],
-    times: &[u32; 512],
-    pairs: &[u16; 512],
-    from: usize,
-    module: usize,
-    recipe: usize,
-    time: u64,
-) -> Lookup
-    requires held { Held (standard_at log.now h) n starts.now times.now pairs.now }
-    requires from_le_n { (from ≤ n) × («module» < 64) × (recipe < 1024) }
-    ensures { result ≡ lookup_of (last_in_force (up_to (standard_at log.now h) from) «module» recipe time) }
-{
-    let mut left = from;
-    while left != 0 {
-        let i = left - 1;
-        if has_begun(log, h, n, starts, pairs, i, module, recipe, time) {
-            return Lookup::Found(placed_at(log, h, n, starts, times, pairs, i));
-        }
-        left = i;
-    }
-    Lookup::Nothing
-}
-
-// The bin of a module and a recipe.
-fn bin_of(pair: u16) -> usize
-    ensures { result ≡ bin_of pair }
-{
-    pair as usize * 83 / 64 % 1024
-}
-
-// Where the last standard for the module and the recipe is: one more than its index, and 0 where there is none. The last one of their bin may be another's; then
-// it is the next one ahead of that in the bin, and so on.
-fn last_for(
-    log: &[u8],
-    h: Header,
-    n: usize,
-    starts: &[u64; 512],
-    times: &[u32; 512],
-    pairs: &[u16; 512],
-    ahead: &[u16; 512],
-    last: &[u16; 1024],
-    module: usize,
-    recipe: usize,
-) -> usize
-    requires listing { Listing (standard_at log.now h) n starts.now times.now pairs.now ahead.now last.now }
-    requires module_bound { («module» < 64) × (recipe < 1024) }
-    ensures { result ≡ last_of (is_for «module» recipe) (standard_at log.now h) n }
-{
-    let mut from = last[bin_of(pair_of(module, recipe))] as usize;
-    while from != 0 {
-        let i = from - 1;
-        if is_for(log, h, n, pairs, i, module, recipe) {
-            return from;
-        }
-        from = ahead[i] as usize;
-    }
-    0
-}
-
-// The last standard of the list, rising or not, that is for the module and the recipe and starts at or before the time, or none. Nearly always the last that is for
-// them has begun, and else the walk goes on from there. Not a buyer's call: the caller owes the listing.
-pub fn look_up(
-    log: &[u8],
-    h: Header,
-    n: usize,
-    starts: &[u64; 512],
-    times: &[u32; 512],
-    pairs: &[u16; 512],
-    ahead: &[u16; 512],
-    last: &[u16; 1024],
-    module: usize,
-    recipe: usize,
-    time: u64,
-) -> Lookup
-    requires listing { Listing (standard_at log.now h) n starts.now times.now pairs.now ahead.now last.now }
-    requires module_bound { («module» < 64) × (recipe < 1024) }
-    ensures { result ≡ lookup_of (last_in_force (up_to (standard_at log.now h) n) «module» recipe time) }
-{
-    let from = last_for(log, h, n, starts, times, pairs, ahead, last, module, recipe);
-    if from == 0 {
-        return Lookup::Nothing;
-    }
-    let newest = from - 1;
-    if starts_by(log, h, n, starts, newest, time) {
-        return Lookup::Found(placed_at(log, h, n, starts, times, pairs, newest));
-    }
-    walk_back(
-        log, h, n, starts, times, pairs, newest, module, recipe, time,
-    )
-}
-
-// A standard's module, recipe and start in one number above 0, by which standards ascend.
+// A standard's module, recipe and start in one number above 0, by which standards ascend: as in `states`, no derived order, which was slower.
 fn standard_number(s: Standard) -> u64
     requires { StandardFits s }
     ensures { result ≡ standard_number s }
 {
-    (pair_of(s.module, s.recipe) as u64 + 1) * 0x8_0000_0000 + s.start
+    (s.module as u64 * 1024 + s.recipe as u64 + 1) * 0x8_0000_0000 + s.start
 }
 
-// Whether one of the first n standards has this module, this recipe and this start.
-fn is_listed(log: &[u8], h: Header, n: usize, s: Standard) -> bool
-    requires standard_fits { StandardFits s }
-    requires covers { Covers log.now (10 + 6 * h.states + 10 * n) }
-    ensures { result ≡ is_among s (up_to (standard_at log.now h) n) }
-{
-    let number = standard_number(s);
-    for j in 0..n {
-        let e = records::standard_within(log, h, j);
-        if standard_number(e) == number {
-            return true;
-        }
-    }
-    false
-}
-
-// Standard i tested for 6, 7, 9, 12, 13 and 19. `before` is the number of the standard before it, and 0 where there is none. Those before rise: so one above them is
-// none of them, and else one search tells 13 from 19.
-fn test_standard(log: &[u8], h: Header, i: usize, before: u64, s: Standard) -> Verdict
-    requires s_value { (s ≡ standard_at log.now h i) × StandardsSequenced (up_to (standard_at log.now h) i) before }
-    requires covers { Covers log.now (10 + 6 * h.states + 10 * i) }
-    ensures { result ≡ standard_ground h.period h.modules (up_to (standard_at log.now h) i) i s }
-{
-    if s.spare != 0 {
-        return refused(6, 2, i);
-    }
-    if h.modules <= s.module {
-        return refused(7, 2, i);
-    }
-    if h.period <= s.start {
-        return refused(9, 2, i);
-    }
-    if s.theoretical == 0 {
-        return refused(12, 2, i);
-    }
-    if standard_number(s) <= before {
-        if is_listed(log, h, i, s) {
-            return refused(13, 2, i);
-        }
-        return refused(19, 2, i);
-    }
-    Verdict::Accepted
-}
-
-// Standard i put into the arrays: it is the last one of its bin.
-fn store_standard(
-    log: &[u8],
+// Standard i tested. `before` is the number of the standard before it, and 0 where there is none. Those before rise: so one above them is none of them, and else one
+// search tells twice from unsorted.
+fn test_standard(
     h: Header,
     i: usize,
-    starts: &mut [u64; 512],
-    times: &mut [u32; 512],
-    pairs: &mut [u16; 512],
-    ahead: &mut [u16; 512],
-    last: &mut [u16; 1024],
+    before: u64,
+    standards: &Standards,
     s: Standard,
-)
-    requires listing { Listing (standard_at log.now h) i starts.old times.old pairs.old ahead.old last.old }
-    requires s_value { (s ≡ standard_at log.now h i) × (s.spare ≡ 0) × (i < 512) }
-    ensures { Listing (standard_at log.now h) (i + 1) starts.new times.new pairs.new ahead.new last.new }
+) -> Result<(), Refusal>
+    requires fits { StandardFits s }
+    requires sequenced { StandardsSequenced standards.now before }
+    ensures { result ≡ standard_ground h.period h.modules standards.now i s }
 {
-    let pair = pair_of(s.module, s.recipe);
-    let bin = bin_of(pair);
-    ahead[i] = last[bin];
-    starts[i] = s.start;
-    times[i] = s.theoretical as u32;
-    pairs[i] = pair;
-    last[bin] = (i + 1) as u16;
+    Ground::Spare.refuses(s.spare != 0, LogList::Standards, i)?;
+    Ground::StrayModule.refuses(h.modules <= s.module, LogList::Standards, i)?;
+    Ground::Outside.refuses(h.period <= s.start, LogList::Standards, i)?;
+    Ground::NoTime.refuses(s.theoretical == 0, LogList::Standards, i)?;
+    let rises = before < standard_number(s);
+    Ground::Twice.refuses(!rises && standards.has_like(s), LogList::Standards, i)?;
+    Ground::Unsorted.refuses(!rises, LogList::Standards, i)
 }
 
 // Standard i tested, and listed where it passes.
 fn list_standard(
-    log: &[u8],
-    h: Header,
+    log: StandardRecords<'_>,
     i: usize,
     before: &mut u64,
-    starts: &mut [u64; 512],
-    times: &mut [u32; 512],
-    pairs: &mut [u16; 512],
-    ahead: &mut [u16; 512],
-    last: &mut [u16; 1024],
-) -> Verdict
-    requires standards_sequenced { StandardsSequenced (up_to (standard_at log.now h) i) before.old }
-    requires listing { Listing (standard_at log.now h) i starts.old times.old pairs.old ahead.old last.old }
-    requires i_bound { (i < 512) × Covers log.now (10 + 6 * h.states + 10 * i + 10) }
-    ensures { Added h.period h.modules (standard_at log.now h) i result before.new starts.new times.new pairs.new ahead.new last.new }
+    standards: &mut Standards,
+) -> Result<(), Refusal>
+    requires sequenced { StandardsSequenced standards.old before.old }
+    requires listed { standards.old ≡ up_to (standard_at log.bytes.now log.header) i }
+    requires i_bound { (i < 512) × (i < log.header.standards) }
+    ensures answer { result ≡ standard_ground log.entry.header.period log.entry.header.modules (up_to (standard_at log.entry.bytes.now log.entry.header) i) i (standard_at log.entry.bytes.now log.entry.header i) }
+    ensures sequenced { IfOk result (λ _. StandardsSequenced standards.new before.new) }
+    ensures listed { IfOk result (λ _. standards.new ≡ up_to (standard_at log.entry.bytes.now log.entry.header) (i + 1)) }
 {
-    let s = records::standard_within(log, h, i);
-    let verdict = test_standard(log, h, i, *before, s);
-    if let Verdict::Refused(_) = verdict {
-        return verdict;
-    }
+    let s = log.record(i);
+    test_standard(log.header, i, *before, standards, s)?;
     *before = standard_number(s);
-    store_standard(log, h, i, starts, times, pairs, ahead, last, s);
-    Verdict::Accepted
+    standards.push(s);
+    Ok(())
 }
 
-// All standards, one by one, up to the first that is refused. Not a buyer's call: the caller owes that they are all in the log, and arrays that start at zero.
-pub fn list_standards(
-    log: &[u8],
-    h: Header,
-    starts: &mut [u64; 512],
-    times: &mut [u32; 512],
-    pairs: &mut [u16; 512],
-    ahead: &mut [u16; 512],
-    last: &mut [u16; 1024],
-) -> Verdict
-    requires standards_bound { (h.standards ≤ 512) × Covers log.now (10 + 6 * h.states + 10 * h.standards) }
-    requires listing { Listing (standard_at log.now h) 0 starts.old times.old pairs.old ahead.old last.old }
-    ensures { AllListed h.period h.modules (standard_at log.now h) h.standards result starts.new times.new pairs.new ahead.new last.new }
+// All standards, one by one, up to the first that is refused. Not a buyer's call: the caller owes that they are few enough.
+pub fn list_standards(log: StandardRecords<'_>, standards: &mut Standards) -> Result<(), Refusal>
+    requires standards_bound { log.header.standards ≤ 512 }
+    requires none_listed { standards.old ≡ [] }
+    ensures answer { result ≡ standard_grounds log.entry.header.period log.entry.header.modules (up_to (standard_at log.entry.bytes.now log.entry.header) log.entry.header.standards) }
+    ensures listed { IfOk result (λ _. standards.new ≡ up_to (standard_at log.entry.bytes.now log.entry.header) log.entry.header.standards) }
 {
     let mut before = 0;
-    let n = h.standards;
-    for i in 0..n {
-        let verdict = list_standard(log, h, i, &mut before, starts, times, pairs, ahead, last);
-        if let Verdict::Refused(_) = verdict {
-            return verdict;
-        }
+    // By index: records are cut out of bytes, and a refusal names it.
+    for i in 0..log.header.standards {
+        list_standard(log, i, &mut before, standards)?;
     }
-    Verdict::Accepted
+    Ok(())
 }
 
-// A unit record tested for 6, 7, 9 and 14, which look at it alone.
+// What looks at a unit record alone.
 #[tactic(auto, unfolding(crate::specs::Credits::own_grounds))]
-fn test_unit(h: Header, i: usize, u: UnitRecord) -> Verdict
+fn test_unit(h: Header, i: usize, u: UnitRecord) -> Result<(), Refusal>
     ensures { result ≡ own_grounds h.period h.modules i u }
 {
-    if u.spare != 0 {
-        return refused(6, 3, i);
-    }
-    if h.modules <= u.module {
-        return refused(7, 3, i);
-    }
-    if h.period <= u.time {
-        return refused(9, 3, i);
-    }
-    if u.actual < u.effective {
-        return refused(14, 3, i);
-    }
-    Verdict::Accepted
+    Ground::Spare.refuses(u.spare != 0, LogList::Units, i)?;
+    Ground::StrayModule.refuses(h.modules <= u.module, LogList::Units, i)?;
+    Ground::Outside.refuses(h.period <= u.time, LogList::Units, i)?;
+    Ground::OverGood.refuses(u.actual < u.effective, LogList::Units, i)
 }
 
 // A unit record's time, module and recipe in one number above 0, by which unit records ascend.
@@ -368,132 +101,85 @@ fn unit_number(u: UnitRecord) -> u64
 }
 
 // The sum of module m grows by the theoretical time for these units.
+#[tactic(auto, using(crate::proofs::Crediting::credit_low))]
 fn credit(sums: &mut [u64; 64], m: usize, units: u64, theoretical: u64)
     requires { (m < 64) × (units < 65536) × (theoretical < 134217728) × (get_or sums.old m 0 < 2 ^ 63) }
     ensures { sums.new ≡ set sums.old m (get_or sums.old m 0 + units * theoretical) }
 {
-    sums[m] = sums[m] + units * theoretical;
+    sums[m] += units * theoretical;
 }
 
 // Unit record i tested, and its units credited to its module where it passes. `byte` is where it begins, and `before` the number of the
 // record before it, 0 where there is none.
 fn credit_unit(
-    log: &[u8],
-    h: Header,
+    log: UnitRecords<'_>,
     i: usize,
     byte: usize,
-    starts: &[u64; 512],
-    times: &[u32; 512],
-    pairs: &[u16; 512],
-    ahead: &[u16; 512],
-    last: &[u16; 1024],
+    standards: &Standards,
     before: &mut u64,
     actual: &mut [u64; 64],
     effective: &mut [u64; 64],
-) -> Verdict
-    requires listing { Listing (standard_at log.now h) h.standards starts.now times.now pairs.now ahead.now last.now }
-    requires standards_value { is_rising standard_key (up_to (standard_at log.now h) h.standards) ≡ true }
-    requires units_sequenced { UnitsSequenced (up_to (unit_at log.now h) i) before.old }
-    requires sums_so_far { SumsSoFar (up_to (standard_at log.now h) h.standards) (up_to (unit_at log.now h) i) i actual.old effective.old }
-    requires i_bound { (i < 2000) × (byte ≡ 10 + 6 * h.states + 10 * h.standards + 11 * i) × Covers log.now (byte + 11) }
-    ensures { OneUnit h.period h.modules (up_to (standard_at log.now h) h.standards) (unit_at log.now h) i result before.new actual.new effective.new }
+) -> Result<(), Refusal>
+    requires listed { standards.now ≡ up_to (standard_at log.bytes.now log.header) log.header.standards }
+    requires rising { is_rising standard_key standards.now ≡ true }
+    requires sequenced { UnitsSequenced (up_to (unit_at log.bytes.now log.header) i) before.old }
+    requires summed { SumsSoFar standards.now (up_to (unit_at log.bytes.now log.header) i) i actual.old effective.old }
+    requires i_bound { (i < 2000) × (i < log.header.units) × (byte ≡ units_begin log.header + 11 * i) }
+    ensures answer { result ≡ unit_ground log.entry.header.period log.entry.header.modules standards.now (up_to (unit_at log.entry.bytes.now log.entry.header) i) i (unit_at log.entry.bytes.now log.entry.header i) }
+    ensures sequenced { IfOk result (λ _. UnitsSequenced (up_to (unit_at log.entry.bytes.now log.entry.header) (i + 1)) before.new) }
+    ensures summed { IfOk result (λ _. SumsSoFar standards.now (up_to (unit_at log.entry.bytes.now log.entry.header) (i + 1)) (i + 1) actual.new effective.new) }
 {
-    let u = records::unit_from(log, byte);
-    let own = test_unit(h, i, u);
-    if let Verdict::Refused(_) = own {
-        return own;
-    }
-    let n = h.standards;
-    let Lookup::Found(p) = look_up(
-        log, h, n, starts, times, pairs, ahead, last, u.module, u.recipe, u.time,
-    ) else {
-        return refused(15, 3, i);
+    let u = log.record_from(byte);
+    test_unit(log.header, i, u)?;
+    let Some(p) = standards.look_up(u.module, u.recipe, u.time) else {
+        return Ground::NoStandard.refuses(true, LogList::Units, i);
     };
     let number = unit_number(u);
-    if number <= *before {
-        return refused(19, 3, i);
-    }
+    Ground::Unsorted.refuses(number <= *before, LogList::Units, i)?;
     *before = number;
-    let m = u.module;
-    credit(actual, m, u.actual, p.standard.theoretical);
-    credit(effective, m, u.effective, p.standard.theoretical);
-    Verdict::Accepted
+    credit(actual, u.module, u.actual, p.standard.theoretical);
+    credit(effective, u.module, u.effective, p.standard.theoretical);
+    Ok(())
 }
 
-// All unit records, one by one, up to the first that is refused.
+// All unit records, one by one, up to the first that is refused. Listed and rising stand in two contracts here and two in `judged`: a type for log and
+// listing would be made at both, of what is at hand.
 fn credit_listed(
-    log: &[u8],
-    h: Header,
-    starts: &[u64; 512],
-    times: &[u32; 512],
-    pairs: &[u16; 512],
-    ahead: &[u16; 512],
-    last: &[u16; 1024],
+    log: UnitRecords<'_>,
+    standards: &Standards,
     actual: &mut [u64; 64],
     effective: &mut [u64; 64],
-) -> Verdict
-    requires listing { Listing (standard_at log.now h) h.standards starts.now times.now pairs.now ahead.now last.now }
-    requires standards_value { is_rising standard_key (up_to (standard_at log.now h) h.standards) ≡ true }
-    requires sums_so_far { SumsSoFar (up_to (standard_at log.now h) h.standards) (up_to (unit_at log.now h) 0) 0 actual.old effective.old }
-    requires units_bound { (h.units ≤ 2000) × Covers log.now (10 + 6 * h.states + 10 * h.standards + 11 * h.units) }
-    ensures { AllUnits h.period h.modules (up_to (standard_at log.now h) h.standards) (up_to (unit_at log.now h) h.units) result actual.new effective.new }
+) -> Result<(), Refusal>
+    requires listed { standards.now ≡ up_to (standard_at log.bytes.now log.header) log.header.standards }
+    requires rising { is_rising standard_key standards.now ≡ true }
+    requires summed { SumsSoFar standards.now (up_to (unit_at log.bytes.now log.header) 0) 0 actual.old effective.old }
+    requires units_bound { log.header.units ≤ 2000 }
+    ensures answer { result ≡ unit_grounds log.entry.header.period log.entry.header.modules standards.now (up_to (unit_at log.entry.bytes.now log.entry.header) log.entry.header.units) }
+    ensures credited { IfOk result (λ _. Credited standards.now (up_to (unit_at log.entry.bytes.now log.entry.header) log.entry.header.units) actual.new effective.new) }
 {
     let mut before = 0;
-    let mut byte = 10 + 6 * h.states + 10 * h.standards;
-    let n = h.units;
-    for i in 0..n {
-        let verdict = credit_unit(
-            log,
-            h,
-            i,
-            byte,
-            starts,
-            times,
-            pairs,
-            ahead,
-            last,
-            &mut before,
-            actual,
-            effective,
-        );
-        if let Verdict::Refused(_) = verdict {
-            return verdict;
-        }
+    let mut byte = log.begin();
+    // By index, which a refusal names; `byte` goes along, since a place worked out from the index at each record is slower.
+    for i in 0..log.header.units {
+        credit_unit(log, i, byte, standards, &mut before, actual, effective)?;
         byte += 11;
     }
-    Verdict::Accepted
+    Ok(())
 }
 
-// Tests the standards, then the unit records, and sums the theoretical times for actual and for effective units of each module. Not a buyer's call: the
-// caller owes that the counts are within their bounds and that the sums start at zero.
+// Tests the standards, then the unit records, and sums the theoretical times for actual and for effective units of each module. Two arrays and no array
+// of pairs: each is summed over the modules on its own. Not a buyer's call: the caller owes that the counts are within
+// their bounds and that the sums start at zero.
 pub fn credit_units(
-    log: &[u8],
-    h: Header,
+    log: UnitRecords<'_>,
     actual: &mut [u64; 64],
     effective: &mut [u64; 64],
-) -> Verdict
-    requires standards_bound { (h.standards ≤ 512) × (h.units ≤ 2000) × Covers log.now (10 + 6 * h.states + 10 * h.standards + 11 * h.units) }
+) -> Result<(), Refusal>
+    requires counts_bound { (log.header.standards ≤ 512) × (log.header.units ≤ 2000) }
     requires actual_value { (actual.old ≡ replicate 64 0) × (effective.old ≡ replicate 64 0) }
-    ensures { Units h.period h.modules (up_to (standard_at log.now h) h.standards) (up_to (unit_at log.now h) h.units) result actual.new effective.new }
+    ensures { UnitsCredited log.entry.header.period log.entry.header.modules (up_to (standard_at log.entry.bytes.now log.entry.header) log.entry.header.standards) (up_to (unit_at log.entry.bytes.now log.entry.header) log.entry.header.units) result actual.new effective.new }
 {
-    let mut starts = [0u64; 512];
-    let mut times = [0u32; 512];
-    let mut pairs = [0u16; 512];
-    let mut ahead = [0u16; 512];
-    let mut last = [0u16; 1024];
-    let verdict = list_standards(
-        log,
-        h,
-        &mut starts,
-        &mut times,
-        &mut pairs,
-        &mut ahead,
-        &mut last,
-    );
-    if let Verdict::Refused(_) = verdict {
-        return verdict;
-    }
-    credit_listed(
-        log, h, &starts, &times, &pairs, &ahead, &last, actual, effective,
-    )
+    let mut standards = Standards::new();
+    list_standards(log.standards(), &mut standards)?;
+    credit_listed(log, &standards, actual, effective)
 }

@@ -1,52 +1,38 @@
 -- Demand 3 as one theorem: of every accepted log all of it holds.
 -- Assumes nothing.
 use mathlib.Core.Path.{◌≡◌, refl, ◌∙◌}
-use mathlib.Core.Logic.{◌⊎◌, inl, inr}
+use mathlib.Core.Logic.{◌⊎◌}
 use mathlib.Core.List.{List}
 use Prim.Native.Nat.{ℕ, ◌<◌}
-use Rattle.records.specs.Log.{header_of, decode}
+use native.Mathlib.Omega.{arith}
+use Rattle.records.specs.Log.{decode}
 use Rattle.e79.specs.declared.Quantities.{Quantities}
-use Rattle.e79.specs.declared.Efficiency.{Efficiency}
-use Rattle.e79.specs.declared.Efficiency.TheVariants.{Ratio, NoBase}
+use Rattle.std.specs.Prelude.{Option, Some, None, Float}
 use Rattle.e79.specs.Quantities.{Ordered}
 use Rattle.e79.specs.Doubles.{combined, left_to_right, nothing, figures_of}
 use Rattle.e79.proofs.Products.{accurate}
-use Rattle.rules.specs.declared.Verdict.TheVariants.{Accepted}
+use Rattle.std.specs.declared.result.Result.TheVariants.{Ok}
 use Rattle.rules.specs.Time.{state_time}
 use Rattle.rules.specs.RecordGrounds.{state_grounds, standard_grounds, unit_grounds}
-use Rattle.rules.specs.Grounds.{◌then◌, first_of}
+use Rattle.rules.specs.Grounds.{Verdict, ◌then◌, first_of}
 use Rattle.rules.specs.Quantities.{time_in, module_times, of_module, of_tool}
 use Rattle.rules.specs.Verdict.{header_grounds, fast_ground, sum_grounds, record_grounds, verdict}
-use Rattle.rules.proofs.FirstGround.{then-left, then-right}
-use Rattle.judging.specs.Working.{Grounded, Consistent}
-use Rattle.judging.proofs.Judging.{counted}
-use Rattle.judging.proofs.Accepted.{consistent, tool_ordered}
+use Rattle.rules.proofs.FirstGround.{then-left, then-right, then-assoc}
+use Rattle.judging.specs.Working.{Consistent}
+use Rattle.judging.proofs.Judging.{all_consistent}
+use Rattle.judging.proofs.Accepted.{tool_ordered}
 use Rattle.tool_log.specs.Demands.{milliseconds, Partition, DemandedDoubles, DemandThree}
 
 -- ---- the doubles of ordered quantities
 
 -- a product over four, one of which has no base
-without-base : (a o r q : Efficiency) → (a ≡ NoBase) ⊎ ((o ≡ NoBase) ⊎ ((r ≡ NoBase) ⊎ (q ≡ NoBase))) → combined left_to_right a o r q ≡ nothing
+without-base : (a o r q : Option Float) → (a ≡ None) ⊎ ((o ≡ None) ⊎ ((r ≡ None) ⊎ (q ≡ None))) → combined left_to_right a o r q ≡ nothing
 unfolding combined
-without-base a o r q (inl e) = rw e
-without-base a o r q (inr (inl e)) = rw e (go a)
-  where
-    go : (a : Efficiency) → combined left_to_right a NoBase r q ≡ nothing
-    go NoBase = refl
-    go (Ratio x) = refl
-without-base a o r q (inr (inr (inl e))) = rw e (go a o)
-  where
-    go : (a o : Efficiency) → combined left_to_right a o NoBase q ≡ nothing
-    go NoBase o = refl
-    go (Ratio x) NoBase = refl
-    go (Ratio x) (Ratio y) = refl
-without-base a o r q (inr (inr (inr e))) = rw e (go a o r)
-  where
-    go : (a o r : Efficiency) → combined left_to_right a o r NoBase ≡ nothing
-    go NoBase o r = refl
-    go (Ratio x) NoBase r = refl
-    go (Ratio x) (Ratio y) NoBase = refl
-    go (Ratio x) (Ratio y) (Ratio z) = refl
+without-base None o r q h = refl
+without-base (Some x) None r q h = refl
+without-base (Some x) (Some y) None q h = refl
+without-base (Some x) (Some y) (Some z) None h = refl
+without-base (Some x) (Some y) (Some z) (Some w) h = grind arith
 
 doubles : (q : Quantities) → Ordered q → DemandedDoubles q (figures_of q)
 unfolding figures_of
@@ -65,45 +51,31 @@ doubles q h =
 
 -- ---- an accepted log
 
-module _ (s : List ℕ) (a : verdict s ≡ Accepted) where
-  header : header_grounds s ≡ Accepted
+module _ (s : List ℕ) (a : verdict s ≡ Ok tt) where
+  header : header_grounds s ≡ Ok tt
   unfolding verdict
   header = then-left (header_grounds s) (record_grounds (decode s)) a
 
-  records : record_grounds (decode s) ≡ Accepted
+  records : record_grounds (decode s) ≡ Ok tt
   unfolding verdict
   records = then-right (header_grounds s) (record_grounds (decode s)) a
 
-  states : state_grounds (decode s).period (decode s).modules (decode s).states ≡ Accepted
+  states : state_grounds (decode s).period (decode s).modules (decode s).states ≡ Ok tt
   unfolding record_grounds
   states = then-left (state_grounds (decode s).period (decode s).modules (decode s).states) _ records
 
-  after-states : (standard_grounds (decode s).period (decode s).modules (decode s).standards then unit_grounds (decode s).period (decode s).modules (decode s).standards (decode s).units then sum_grounds (decode s)) ≡ Accepted
+  abbrev listed : Verdict
+  listed = standard_grounds (decode s).period (decode s).modules (decode s).standards then unit_grounds (decode s).period (decode s).modules (decode s).standards (decode s).units
+
+  rest : (listed then sum_grounds (decode s)) ≡ Ok tt
   unfolding record_grounds
-  after-states = then-right (state_grounds (decode s).period (decode s).modules (decode s).states) _ records
-
-  after-standards : (unit_grounds (decode s).period (decode s).modules (decode s).standards (decode s).units then sum_grounds (decode s)) ≡ Accepted
-  after-standards = then-right (standard_grounds (decode s).period (decode s).modules (decode s).standards) _ after-states
-
-  fast : first_of (fast_ground (decode s)) (decode s).modules ≡ Accepted
-  unfolding sum_grounds
-  fast = then-left (first_of (fast_ground (decode s)) (decode s).modules) _ (then-right (unit_grounds (decode s).period (decode s).modules (decode s).standards (decode s).units) _ after-standards)
-
-  grounded : Grounded (decode s)
-  unfolding decode
-  grounded =
-      let n = counted s (header_of s) refl header in
-      record {
-        one_module = n.modules.0;
-        few = n.modules.1;
-        begun = n.period.0;
-        short = n.period.1;
-        states = states;
-        units = then-left (unit_grounds (decode s).period (decode s).modules (decode s).standards (decode s).units) _ after-standards;
-      }
+  rest =
+      then-assoc (standard_grounds (decode s).period (decode s).modules (decode s).standards) (unit_grounds (decode s).period (decode s).modules (decode s).standards (decode s).units) (sum_grounds (decode s))
+      ∙ then-right (state_grounds (decode s).period (decode s).modules (decode s).states) _ records
 
   ordered : Consistent (decode s)
-  ordered = consistent (decode s) grounded fast
+  unfolding decode sum_grounds
+  ordered = all_consistent s header states (then-left listed _ rest) (then-left (first_of (fast_ground (decode s)) (decode s).modules) _ (then-right listed _ rest))
 
   partition : (m : ℕ) → m < (decode s).modules → Partition (decode s) m (module_times (decode s) m)
   unfolding milliseconds time_in state_time

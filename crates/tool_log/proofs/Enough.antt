@@ -12,26 +12,26 @@ use Rattle.bits.proofs.Fields.{field-take}
 use Rattle.records.specs.declared.Header.{Header}
 use Rattle.records.specs.Fields.{header_from}
 use Rattle.records.specs.Log.{header_of, decode}
-use Rattle.rules.specs.declared.Verdict.{Verdict}
-use Rattle.rules.specs.declared.Verdict.TheVariants.{Accepted}
-use Rattle.rules.specs.Grounds.{ground, ◌then◌}
-use Rattle.rules.specs.Names.{no_list}
+use Rattle.rules.specs.declared.Ground.TheVariants.{Period, Modules, Counts, Length}
+use Rattle.rules.specs.declared.LogList.TheVariants.{NoList}
+use Rattle.std.specs.declared.result.Result.TheVariants.{Ok}
+use Rattle.rules.specs.Grounds.{Verdict, ground, ◌then◌}
 use Rattle.rules.specs.Verdict.{bad_period, bad_modules, bad_counts, bad_length, header_grounds, record_grounds, verdict}
 use Rattle.judging.proofs.Bounds.{good-counts}
 use Rattle.judging.proofs.Judging.{counted}
 use Rattle.rules.proofs.FirstGround.{then-left}
 
-pub longest-log : (s : List ℕ) → verdict s ≡ Accepted → length s ≤ 63130
+pub longest-log : (s : List ℕ) → verdict s ≡ Ok tt → length s ≤ 63130
 unfolding verdict
 longest-log s a = let n = counted s (header_of s) refl (then-left (header_grounds s) (record_grounds (decode s)) a) in omega (arith, n.whole, n.counts)
 
 -- what a longer input is answered: its header decides, and else 5
 abbrev by_header : Header → Verdict
 by_header h =
-    ground 2 no_list 0 (bad_period h.period)
-    then ground 3 no_list 0 (bad_modules h.modules)
-    then ground 4 no_list 0 (bad_counts h)
-    then ground 5 no_list 0 true
+    ground Period NoList 0 (bad_period h.period)
+    then ground Modules NoList 0 (bad_modules h.modules)
+    then ground Counts NoList 0 (bad_counts h)
+    then ground Length NoList 0 true
 
 pub too_long : (s : List ℕ) → 63130 < length s → verdict s ≡ by_header (header_of s)
 unfolding verdict header_grounds
@@ -44,8 +44,8 @@ too_long s l = rw (le-ltb (length s) 10 (omega arith)) (go (bad_period h.period)
     long c = rw (ne_eqb (length s) (10 + 6 * h.states + 10 * h.standards + 11 * h.units) (λ e. omega (arith, good-counts h c)))
 
     go : (p m c : Bool) → bad_counts h ≡ c
-        → (ground 2 no_list 0 p then ground 3 no_list 0 m then ground 4 no_list 0 c then ground 5 no_list 0 (bad_length (length s) h)) then record_grounds (decode s)
-        ≡ ground 2 no_list 0 p then ground 3 no_list 0 m then ground 4 no_list 0 c then ground 5 no_list 0 true
+        → (ground Period NoList 0 p then ground Modules NoList 0 m then ground Counts NoList 0 c then ground Length NoList 0 (bad_length (length s) h)) then record_grounds (decode s)
+        ≡ ground Period NoList 0 p then ground Modules NoList 0 m then ground Counts NoList 0 c then ground Length NoList 0 true
     go true m c e = refl
     go false true c e = refl
     go false false true e = refl

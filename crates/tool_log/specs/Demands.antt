@@ -1,9 +1,8 @@
 -- Demand 3, whole: what holds of every accepted log, sentence by sentence. `proofs/DemandThree.antt` has the theorem.
 -- Definitions only.
-use Rattle.std.specs.Prelude.{◌≡◌, ◌⊎◌, ℕ, ◌<◌}
+use Rattle.std.specs.Prelude.{◌≡◌, ◌⊎◌, ℕ, ◌<◌, None}
 use Rattle.records.specs.Log.{Log}
 use Rattle.e79.specs.declared.Quantities.{Quantities}
-use Rattle.e79.specs.declared.Efficiency.TheVariants.{NoBase}
 use Rattle.e79.specs.declared.Figures.{Figures}
 use Rattle.e79.specs.Doubles.{efficiency_of, combined, left_to_right, nothing, figures_of}
 use Rattle.e79.specs.Accuracy.{Nearest, Proper}
@@ -29,7 +28,7 @@ pub record Partition (l : Log) (m : ℕ) (t : StateTimes) : Type 0 where
 
 -- one of the four efficiencies has no base
 abbrev pub LacksBase : Figures → Type 0
-LacksBase r = (r.availability ≡ NoBase) ⊎ ((r.operational ≡ NoBase) ⊎ ((r.rate ≡ NoBase) ⊎ (r.quality ≡ NoBase)))
+LacksBase r = (r.availability ≡ None) ⊎ ((r.operational ≡ None) ⊎ ((r.rate ≡ None) ⊎ (r.quality ≡ None)))
 
 -- what is demanded of the doubles r that are handed out for the quantities q of a module or of the tool
 pub record DemandedDoubles (q : Quantities) (r : Figures) : Type 0 where

@@ -2,17 +2,22 @@
 // every accepted log that a buyer looks for.
 #![tactic(auto)]
 
-// The state times, the quantities and the set of doubles, of a module and of the tool, each with its answer.
+// The state times, the quantities and the set of doubles, of a module and of the tool, or why a call is refused.
 pub use answering::{
-    FiguresAnswer, QuantitiesAnswer, StateTimesAnswer, module_figures, module_quantities,
-    module_state_times, tool_figures, tool_quantities, tool_state_times,
+    module_figures, module_quantities, module_state_times, tool_figures, tool_quantities,
+    tool_state_times,
 };
+pub use e79::{Figures, Quantities};
+pub use rules::StateTimes;
+
+// What a call is refused with.
+pub use rules::{Ground, LogList, Refusal};
 
 // The verdict for a buffer, the report, and what the shift program prints.
 pub use reporting::{examine, print_report, report, write_report};
 
 // The supplemental figures of the tool.
-pub use supplemental::{Supplemental, SupplementalAnswer, tool_supplemental};
+pub use supplemental::{Supplemental, tool_supplemental};
 
 // The tables of state times and of quantities, the lines of supplemental figures, a refusal in words, and its row on the card.
 pub use appendix::{print_supplemental, print_supplemental_words};
@@ -20,4 +25,4 @@ pub use card::{explain, words_of};
 pub use printing::{Table, print_table, print_words};
 
 // A log written record by record, and the test of what was written.
-pub use writing::{PositionAnswer, finish_log, put_header, put_standard, put_state, put_unit};
+pub use writing::{finish_log, put_header, put_standard, put_state, put_unit};

@@ -1,1 +1,1 @@
-pub mod Handing
+mod Handing

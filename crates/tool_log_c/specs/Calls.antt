@@ -3,13 +3,13 @@
 use Rattle.std.specs.Prelude.{◌≡◌, List, [], ◌∷◌, ℕ, ◌+◌, ◌≤◌, length, Float}
 use Rattle.records.specs.Log.{decode}
 use Rattle.e79.specs.declared.Quantities.{Quantities}
-use Rattle.e79.specs.Quantities.{Ordered}
+use Rattle.e79.specs.Quantities.{Ordered, quantities_of}
 use Rattle.e79.specs.Doubles.{figures_of}
 use Rattle.e79.specs.Accuracy.{Accurate}
 use Rattle.rules.specs.declared.Refusal.{Refusal}
-use Rattle.rules.specs.declared.Verdict.{Verdict}
-use Rattle.rules.specs.declared.Verdict.TheVariants.{Accepted, Refused}
-use Rattle.rules.specs.Quantities.{all_times, module_times, tool_times, of_module, of_tool, times_of, quantities_of}
+use Rattle.rules.specs.Grounds.{Verdict}
+use Rattle.std.specs.declared.result.Result.TheVariants.{Ok, Err}
+use Rattle.rules.specs.Quantities.{all_times, module_times, tool_times, of_module, of_tool, times_of}
 use Rattle.rules.specs.Verdict.{verdict, verdict_on}
 use Rattle.answering.specs.Calls.{OnModule}
 use Rattle.rules.specs.Refusals.{OfLog}
@@ -23,14 +23,14 @@ use Rattle.telling.specs.Told.{answer_or, Told}
 
 -- what is promised of the value where the verdict accepts, and what a refusal may be
 pub record Promised (v : Verdict) (Promise : Type 0) (Allowed : Refusal → Type 0) : Type 0 where
-  pub promise : v ≡ Accepted → Promise
-  pub refusal : (x : Refusal) → v ≡ Refused x → Allowed x
+  pub promise : v ≡ Ok tt → Promise
+  pub refusal : (x : Refusal) → v ≡ Err x → Allowed x
 
 -- ---- a verdict
 
 pub record Tells (v : Verdict) (Allowed : Refusal → Type 0) (r : ℕ) (refusal : List ℕ) : Type 0 where
   pub told : Told v r refusal
-  pub known : (x : Refusal) → v ≡ Refused x → Allowed x
+  pub known : (x : Refusal) → v ≡ Err x → Allowed x
 
 -- the one for a buffer
 abbrev pub TellsVerdict : List ℕ → ℕ → ℕ → List ℕ → Type 0

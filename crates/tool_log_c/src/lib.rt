@@ -1,5 +1,6 @@
 // What a dashboard links: the calls of `tool_log` as C functions. None has a `requires`, and each array that a caller lends has a fixed size.
-#![tactic(auto)]
+// C has no Result, no generics and no struct of ours: a flag, numbers, arrays and a place, and a name for each call.
+#![tactic(auto, using(crate::proofs::Handing::handing))]
 
 ghost use Rattle.reporting.specs.Reports.{Written};
 ghost use Rattle.tool_log_c.specs.Calls.{TellsVerdict, TellsModuleTimes, TellsToolTimes, TellsModuleQuantities, TellsToolQuantities, TellsModuleFigures, TellsToolFigures, TellsSupplemental, TellsAdding, TellsFinishing};
@@ -36,7 +37,7 @@ pub extern "C" fn tl_module_state_times(
 ) -> u32
     ensures { TellsModuleTimes log.now m times.old result times.new refusal.new }
 {
-    telling::tell_times(tool_log::module_state_times(log, m), times, refusal)
+    telling::tell_numbers(tool_log::module_state_times(log, m), times, refusal)
 }
 
 // The tool's, which sum those of its modules.
@@ -48,7 +49,7 @@ pub extern "C" fn tl_tool_state_times(
 ) -> u32
     ensures { TellsToolTimes log.now times.old result times.new refusal.new }
 {
-    telling::tell_times(tool_log::tool_state_times(log), times, refusal)
+    telling::tell_numbers(tool_log::tool_state_times(log), times, refusal)
 }
 
 // The five quantities of module m.
@@ -61,7 +62,7 @@ pub extern "C" fn tl_module_quantities(
 ) -> u32
     ensures { TellsModuleQuantities log.now m quantities.old result quantities.new refusal.new }
 {
-    telling::tell_quantities(tool_log::module_quantities(log, m), quantities, refusal)
+    telling::tell_numbers(tool_log::module_quantities(log, m), quantities, refusal)
 }
 
 // The tool's.
@@ -73,7 +74,7 @@ pub extern "C" fn tl_tool_quantities(
 ) -> u32
     ensures { TellsToolQuantities log.now quantities.old result quantities.new refusal.new }
 {
-    telling::tell_quantities(tool_log::tool_quantities(log), quantities, refusal)
+    telling::tell_numbers(tool_log::tool_quantities(log), quantities, refusal)
 }
 
 // The set of doubles of module m, and which of the four efficiencies have a base.
@@ -115,7 +116,7 @@ pub extern "C" fn tl_supplemental(
 ) -> u32
     ensures { TellsSupplemental log.now benchmarks.now figures.old result figures.new refusal.new }
 {
-    telling::tell_supplemental(
+    telling::tell_numbers(
         tool_log::tool_supplemental(log, benchmarks),
         figures,
         refusal,

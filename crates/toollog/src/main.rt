@@ -1,9 +1,10 @@
 // One command for a log: its report, its state times, its quantities, its supplemental figures, and what a refusal means.
+// That a name is at most 4,096 bytes stands in four contracts: see `saying`.
 #![tactic(auto)]
 
-ghost use Rattle.std.specs.Prelude.{◌≤◌, length};
+ghost use Rattle.std.specs.Prelude.{ℕ, ◌≤◌, length};
 
-use parsing::Parsed;
+use reading::Named;
 use std::env::FillError;
 use std::rt::Env;
 use tool_log::Table;
@@ -31,6 +32,12 @@ fn put_out(rt: HostRuntime, text: &[u8]) {
     }
 }
 
+fn complain(rt: HostRuntime, name: &[u8], reason: &[u8])
+    requires { length name.now ≤ 4096 }
+{
+    saying::complain(&rt.stderr(), name, reason);
+}
+
 // Whether there is an argument i.
 fn has_argument(rt: HostRuntime, i: usize) -> bool {
     let mut text = [0u8; 1];
@@ -44,19 +51,28 @@ fn has_too_many(rt: HostRuntime, most: usize) -> bool {
     }
     let mut text = [0u8; 4096];
     let n = rt.arg(most, &mut text).unwrap_or(0);
-    saying::complain(&rt.stderr(), &text[..n], b"an argument too many\n");
+    complain(rt, &text[..n], b"an argument too many\n");
+    true
+}
+
+// Complains of this name in the words that a step puts at the front of an array, and answers whether it put any.
+fn complains<F: FnOnce(&mut [u8; 512]) -> usize>(rt: HostRuntime, name: &[u8], put: F) -> bool
+    requires short { length name.now ≤ 4096 }
+    requires callable { F.IsAlwaysCallable put }
+    requires within { (before after : _) (n : ℕ) → F.post put before n after → n ≤ 512 }
+{
+    let mut space = [0u8; 512];
+    let size = put(&mut space);
+    if size == 0 {
+        return false;
+    }
+    complain(rt, name, &space[..size]);
     true
 }
 
 // ---- what is asked of a log
 
-#[derive(Drop)]
-enum Asked {
-    Report,
-    Times,
-    Quantities,
-}
-
+// The three that print stay three: their arrays differ in size, and a closure's bound that names a const parameter gets no proof.
 fn print_report(rt: HostRuntime, log: &[u8]) {
     let mut space = [0u8; 2494];
     let size = tool_log::print_report(log, &mut space);
@@ -69,95 +85,62 @@ fn print_table(rt: HostRuntime, table: Table, log: &[u8]) {
     put_out(rt, &space[..size]);
 }
 
-// Prints why the log of this name is refused, if it is.
-fn print_words(rt: HostRuntime, name: &[u8], log: &[u8])
-    requires { length name.now ≤ 4096 }
-{
-    let mut space = [0u8; 512];
-    let size = tool_log::print_words(log, &mut space);
-    if size > 0 {
-        saying::complain(&rt.stderr(), name, &space[..size]);
-    }
-}
-
-fn print(rt: HostRuntime, asked: Asked, name: &[u8], log: &[u8])
-    requires { length name.now ≤ 4096 }
-{
-    match asked {
-        Asked::Report => print_report(rt, log),
-        Asked::Times => print_table(rt, Table::Times, log),
-        Asked::Quantities => print_table(rt, Table::Quantities, log),
-    }
-    print_words(rt, name, log);
+// Prints why a log is refused, if it is, and answers whether it is.
+fn print_words(rt: HostRuntime, log: Named) -> bool {
+    complains(
+        rt,
+        log.name,
+        |space| tool_log::print_words(log.bytes, space),
+    )
 }
 
 // The longest log takes 63,130 bytes: one byte more is enough to see that a log is too long.
-fn answer(rt: HostRuntime, asked: Asked) {
+fn answer<F: FnOnce(&[u8])>(rt: HostRuntime, print: F)
+    requires { F.IsAlwaysCallable print }
+{
     if has_too_many(rt, 3) {
         return;
     }
     let mut name = [0u8; 4096];
     let mut input = [0u8; 63131];
-    let named = reading::read_log(&rt, &rt.stderr(), 2, &mut name, &mut input);
-    if named.is_read {
-        print(rt, asked, &name[..named.name], &input[..named.size]);
+    if let Some(log) = reading::read_log(&rt, &rt.stderr(), 2, &mut name, &mut input) {
+        print(log.bytes);
+        print_words(rt, log);
     }
 }
 
 // ---- the supplemental figures
 
-// Prints why the benchmarks of this source are refused, if they are and their log is not.
-fn print_benchmark_words(rt: HostRuntime, source: &[u8], log: &[u8], benchmarks: &[u8])
-    requires { length source.now ≤ 4096 }
-{
-    let mut space = [0u8; 512];
-    let of_log = tool_log::print_words(log, &mut space);
-    if of_log > 0 {
-        return;
-    }
-    let size = tool_log::print_supplemental_words(log, benchmarks, &mut space);
-    if size > 0 {
-        saying::complain(&rt.stderr(), source, &space[..size]);
-    }
-}
-
-// The figures of the log of this name, by the benchmarks of this source.
-fn print_supplemental(rt: HostRuntime, name: &[u8], log: &[u8], source: &[u8], benchmarks: &[u8])
-    requires { (length name.now ≤ 4096) × (length source.now ≤ 4096) }
-{
+// The figures of the log by these benchmarks, and why the log is refused, or else the benchmarks, if one of them is.
+fn print_supplemental(rt: HostRuntime, log: Named, benchmarks: Named) {
     let mut space = [0u8; 96];
-    let size = tool_log::print_supplemental(log, benchmarks, &mut space);
+    let size = tool_log::print_supplemental(log.bytes, benchmarks.bytes, &mut space);
     put_out(rt, &space[..size]);
-    print_words(rt, name, log);
-    print_benchmark_words(rt, source, log, benchmarks);
+    if !print_words(rt, log) {
+        complains(rt, benchmarks.name, |space| {
+            tool_log::print_supplemental_words(log.bytes, benchmarks.bytes, space)
+        });
+    }
 }
 
 // Whether argument i is `-`.
 fn is_input(rt: HostRuntime, i: usize) -> bool {
     let mut text = [0u8; 2];
     let n = rt.arg(i, &mut text).unwrap_or(0);
-    check::same(&text[..n], b"-")
+    matches!(&text[..n], b"-")
 }
 
 // The benchmarks of the longest log take 7,168 bytes.
 fn read_both(rt: HostRuntime) {
     let mut name = [0u8; 4096];
-    let mut log = [0u8; 63131];
-    let first = reading::read_log(&rt, &rt.stderr(), 2, &mut name, &mut log);
-    if !first.is_read {
+    let mut input = [0u8; 63131];
+    let Some(log) = reading::read_log(&rt, &rt.stderr(), 2, &mut name, &mut input) else {
         return;
-    }
+    };
     let mut source = [0u8; 4096];
-    let mut benchmarks = [0u8; 7169];
-    let second = reading::read_log(&rt, &rt.stderr(), 3, &mut source, &mut benchmarks);
-    if second.is_read {
-        print_supplemental(
-            rt,
-            &name[..first.name],
-            &log[..first.size],
-            &source[..second.name],
-            &benchmarks[..second.size],
-        );
+    let mut space = [0u8; 7169];
+    if let Some(benchmarks) = reading::read_log(&rt, &rt.stderr(), 3, &mut source, &mut space) {
+        print_supplemental(rt, log, benchmarks);
     }
 }
 
@@ -166,22 +149,12 @@ fn supplemental(rt: HostRuntime) {
         return;
     }
     if !has_argument(rt, 3) {
-        saying::complain(
-            &rt.stderr(),
-            b"supplemental",
-            b"LOG and BENCHMARKS are needed\n",
-        );
-        return;
+        complain(rt, b"supplemental", b"LOG and BENCHMARKS are needed\n");
+    } else if is_input(rt, 2) && is_input(rt, 3) {
+        complain(rt, b"supplemental", b"standard input cannot be both\n");
+    } else {
+        read_both(rt);
     }
-    if is_input(rt, 2) && is_input(rt, 3) {
-        saying::complain(
-            &rt.stderr(),
-            b"supplemental",
-            b"standard input cannot be both\n",
-        );
-        return;
-    }
-    read_both(rt);
 }
 
 // ---- what a refusal means
@@ -190,21 +163,18 @@ fn explain_number(rt: HostRuntime, text: &[u8], number: u64)
     requires { length text.now ≤ 4096 }
 {
     let mut space = [0u8; 512];
-    let size = tool_log::explain(number as usize, &mut space);
-    if size == 0 {
-        saying::complain(&rt.stderr(), text, b"no refusal has this number\n");
-        return;
+    match tool_log::explain(number as usize, &mut space) {
+        0 => complain(rt, text, b"no refusal has this number\n"),
+        size => put_out(rt, &space[..size]),
     }
-    put_out(rt, &space[..size]);
 }
 
 fn explain_text(rt: HostRuntime, text: &[u8])
     requires { length text.now ≤ 4096 }
 {
-    let parsed = parsing::parse_number(text);
-    match parsed {
-        Parsed::Number(n) => explain_number(rt, text, n),
-        Parsed::NoNumber => saying::complain(&rt.stderr(), text, b"not a number\n"),
+    match parsing::parse_number(text) {
+        Some(n) => explain_number(rt, text, n),
+        None => complain(rt, text, b"not a number\n"),
     }
 }
 
@@ -212,40 +182,31 @@ fn explain(rt: HostRuntime) {
     if has_too_many(rt, 3) {
         return;
     }
-    if !has_argument(rt, 2) {
-        saying::complain(
-            &rt.stderr(),
-            b"explain",
-            b"which refusal? its number is missing\n",
-        );
-        return;
-    }
     let mut text = [0u8; 4096];
     match rt.arg(2, &mut text) {
         Ok(n) => explain_text(rt, &text[..n]),
-        Err(_) => saying::complain(&rt.stderr(), &text, b"not a number\n"),
+        Err(FillError::TooLong) => complain(rt, &text, b"not a number\n"),
+        Err(FillError::NotPresent) => {
+            complain(rt, b"explain", b"which refusal? its number is missing\n");
+        }
     }
 }
 
 // ---- the subcommands
 
 fn run(rt: HostRuntime, word: &[u8]) {
-    if check::same(word, b"report") {
-        answer(rt, Asked::Report);
-    } else if check::same(word, b"times") {
-        answer(rt, Asked::Times);
-    } else if check::same(word, b"quantities") {
-        answer(rt, Asked::Quantities);
-    } else if check::same(word, b"supplemental") {
-        supplemental(rt);
-    } else if check::same(word, b"explain") {
-        explain(rt);
-    } else if check::same(word, b"help") {
-        if !has_too_many(rt, 2) {
-            help(&rt.stdout());
+    match word {
+        b"report" => answer(rt, |log| print_report(rt, log)),
+        b"times" => answer(rt, |log| print_table(rt, Table::Times, log)),
+        b"quantities" => answer(rt, |log| print_table(rt, Table::Quantities, log)),
+        b"supplemental" => supplemental(rt),
+        b"explain" => explain(rt),
+        b"help" => {
+            if !has_too_many(rt, 2) {
+                help(&rt.stdout());
+            }
         }
-    } else {
-        help(&rt.stderr());
+        _ => help(&rt.stderr()),
     }
 }
 

@@ -22,7 +22,7 @@ abbrev pub value_of : List Slot → ℕ
 value_of [] = 0
 value_of (f ∷ fs) = f.value * 2 ^ total fs + value_of fs
 
-value-lt : (fs : List Slot) → Fit fs → value_of fs < 2 ^ total fs
+pub value-lt : (fs : List Slot) → Fit fs → value_of fs < 2 ^ total fs
 value-lt [] fit = omega arith
 value-lt (f ∷ fs) fit = rw (pow-add 2 f.width (total fs)) (digits_lt fit.0 (value-lt fs fit.1))
 

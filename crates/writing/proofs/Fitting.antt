@@ -1,7 +1,7 @@
 -- Whether the values of a record fit their fields.
 -- Assumes nothing.
 use mathlib.Core.Path.{◌≡◌, refl}
-use mathlib.Core.Bool.{Bool, true, false, ◌||◌}
+use mathlib.Core.Bool.{false}
 use mathlib.Core.List.{List, [], ◌∷◌}
 use Prim.Native.Nat.{◌^◌}
 use lib.Dec.{leb}
@@ -19,8 +19,3 @@ fits (f ∷ fs) e =
 pub none-too_wide : (fs : List Slot) → Fit fs → any_too_wide fs ≡ false
 none-too_wide [] fit = refl
 none-too_wide (f ∷ fs) fit = rw (lt-leb (2 ^ f.width) f.value fit.0) (none-too_wide fs fit.1)
-
--- spare bits are 0, which fits
-pub no_more : (a : Bool) → a ≡ a || false
-no_more true = refl
-no_more false = refl

@@ -13,12 +13,13 @@ use Rattle.bits.proofs.Puts.{length-packed}
 use Rattle.records.specs.Encode.{joined, AllFit}
 use Rattle.filling.specs.Buffer.{written}
 use Rattle.filling.proofs.Written.{written_length, written_behind, written_through}
-use Rattle.rules.specs.declared.Verdict.{Verdict}
-use Rattle.rules.specs.declared.Verdict.TheVariants.{Accepted, Refused}
+use Rattle.rules.specs.declared.Ground.TheVariants.{ShortBuffer, TooWide}
+use Rattle.rules.specs.declared.LogList.TheVariants.{NoList}
+use Rattle.rules.specs.Grounds.{Verdict}
+use Rattle.std.specs.declared.result.Result.TheVariants.{Ok, Err}
 use Rattle.rules.specs.Grounds.{ground}
 use Rattle.rules.proofs.FirstGround.{then-left, then-right, not-met}
 use Rattle.rules.specs.Answers.{answer_of}
-use Rattle.writing.specs.declared.PositionAnswer.TheVariants as position
 use Rattle.writing.specs.Writing.{Entry, entry_bytes, any_too_wide, add_verdict, if_accepted, add_answer, add_buffer}
 use Rattle.writing.specs.Runs.{Run, handed_back, counted, call, run, Kept}
 use Rattle.writing.proofs.Fitting.{fits, none-too_wide}
@@ -30,17 +31,17 @@ pub record Addable (e : Entry) (room at : ℕ) : Type 0 where
   pub fit : Fit e.slots
   pub holds : at + e.size ≤ room
 
-pub addable : (e : Entry) (room at : ℕ) → add_verdict e room at ≡ Accepted → Addable e room at
+pub addable : (e : Entry) (room at : ℕ) → add_verdict e room at ≡ Ok tt → Addable e room at
 unfolding add_verdict
 addable e room at a =
-    let wide = ground 22 e.list 0 (any_too_wide e.slots) in
-    let short = ground 18 0 0 (ltb room (at + e.size)) in
+    let wide = ground TooWide e.list 0 (any_too_wide e.slots) in
+    let short = ground ShortBuffer NoList 0 (ltb room (at + e.size)) in
     record {
-      fit = fits e.slots (not-met 22 e.list 0 (any_too_wide e.slots) (then-left wide short a));
-      holds = ltb-false room (at + e.size) (not-met 18 0 0 (ltb room (at + e.size)) (then-right wide short a));
+      fit = fits e.slots (not-met TooWide e.list 0 (any_too_wide e.slots) (then-left wide short a));
+      holds = ltb-false room (at + e.size) (not-met ShortBuffer NoList 0 (ltb room (at + e.size)) (then-right wide short a));
     }
 
-pub accepting : (e : Entry) (room at : ℕ) → Addable e room at → add_verdict e room at ≡ Accepted
+pub accepting : (e : Entry) (room at : ℕ) → Addable e room at → add_verdict e room at ≡ Ok tt
 unfolding add_verdict
 accepting e room at f = rw (none-too_wide e.slots f.fit, le-ltb room (at + e.size) f.holds)
 
@@ -70,18 +71,18 @@ by-verdict w e = go (add_verdict e (length w.buffer) w.position)
   where
     left : Verdict → Run
     left v =
-        let r = answer_of position.Answered position.Refused v (w.position + e.size) in
+        let r = answer_of v (w.position + e.size) in
         record { buffer = if_accepted v (written w.buffer w.position (entry_bytes e)) w.buffer; position = handed_back r w.position; added = counted r w.added e }
 
     go : (v : Verdict) → left v ≡ if_accepted v (onward w e) w
-    go Accepted = refl
-    go (Refused x) = refl
+    go (Ok tt) = refl
+    go (Err x) = refl
 
 call_kept : (buf : List ℕ) (w : Run) (e : Entry) → Kept buf w → Kept buf (call w e)
 call_kept buf w e k = rw (by-verdict w e) (step (add_verdict e (length w.buffer) w.position) refl)
   where
     step : (v : Verdict) → add_verdict e (length w.buffer) w.position ≡ v → Kept buf (if_accepted v (onward w e) w)
-    step Accepted a =
+    step (Ok tt) a =
         let at = w.position in
         let xs = entry_bytes e in
         let len : length xs ≡ e.size = length-packed e.size e.slots in
@@ -93,7 +94,7 @@ call_kept buf w e k = rw (by-verdict w e) (step (add_verdict e (length w.buffer)
           size = written_length w.buffer at xs (rw len f.holds) ∙ k.size;
           fit = fit-more w.added e k.fit f.fit;
         }
-    step (Refused x) a = k
+    step (Err x) a = k
 
 runs-kept : (buf : List ℕ) (es : List Entry) (w : Run) → Kept buf w → Kept buf (foldl call w es)
 runs-kept buf [] w k = k

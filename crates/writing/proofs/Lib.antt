@@ -1,8 +1,8 @@
 pub mod Cases
 pub mod Fitting
 pub mod Bytes
-pub mod Values
-pub mod Storing
+pub mod Laying
+pub mod Adding
 pub mod Kept
 pub mod Finished
 pub mod Rewriting

@@ -1,18 +1,13 @@
--- What is answered and left where every value fits and the record's bytes are given: for the one function that the adding calls share.
+-- The fields of a record as the adding calls hand them on, and how many bits they have.
 -- Definitions only.
-use Rattle.std.specs.Prelude.{◌≡◌, List, ℕ, ◌+◌, ltb, length}
-use Rattle.filling.specs.Buffer.{written}
-use Rattle.rules.specs.declared.Verdict.{Verdict}
-use Rattle.rules.specs.Grounds.{ground}
-use Rattle.rules.specs.Names.{no_list}
-use Rattle.rules.specs.Answers.{answer_of}
-use Rattle.writing.specs.declared.PositionAnswer.{PositionAnswer}
-use Rattle.writing.specs.declared.PositionAnswer.TheVariants as position
-use Rattle.writing.specs.Writing.{if_accepted}
+use Rattle.std.specs.Prelude.{List, [], ◌∷◌, ℕ, ◌+◌}
+use Rattle.bits.specs.Put.{Slot}
+use Rattle.writing.specs.declared.Field.{Field}
 
-abbrev pub room_verdict : ℕ → ℕ → ℕ → Verdict
-room_verdict room at size = ground 18 no_list 0 (ltb room (at + size))
+abbrev pub slots_of : List Field → List Slot
+slots_of [] = []
+slots_of (f ∷ fs) = record { width = f.width; value = f.value } ∷ slots_of fs
 
-pub record Stored (bytes before : List ℕ) (at : ℕ) (r : PositionAnswer) (after : List ℕ) : Type 0 where
-  pub answer : r ≡ answer_of position.Answered position.Refused (room_verdict (length before) at (length bytes)) (at + length bytes)
-  pub left : after ≡ if_accepted (room_verdict (length before) at (length bytes)) (written before at bytes) before
+abbrev pub bits_of : List Field → ℕ
+bits_of [] = 0
+bits_of (f ∷ fs) = f.width + bits_of fs

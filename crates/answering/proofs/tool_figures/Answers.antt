@@ -1,26 +1,21 @@
--- `answering::tool_figures` meets its contract: the summary's verdict decides, and the doubles are those of the log's quantities.
+-- `answering::tool_figures` meets its contract: an accepted log's account has the doubles of the tool.
 -- Assumes nothing.
-use mathlib.Core.Path.{ap}
+use mathlib.Core.Path.{◌≡◌}
+use native.Mathlib.Omega.{arith}
+use Rattle.std.specs.declared.result.Result.TheVariants.{Err}
 use Rattle.records.specs.Log.{decode}
 use Rattle.e79.specs.Doubles.{figures_of}
 use Rattle.e79.specs.Accuracy.{Accurate}
-use Rattle.e79.proofs.Products.{accurate}
 use Rattle.rules.specs.Quantities.{of_tool}
-use Rattle.rules.specs.Verdict.{verdict}
-use Rattle.rules.specs.Refusals.{OfLog}
-use Rattle.rules.proofs.KnownRefusals.{log-refusal}
-use Rattle.rules.proofs.Given.{given_by}
-use Rattle.answering.proofs.Answers.{figures-apart}
+use Rattle.judging.proofs.Accepted.{tool_ordered}
+use Rattle.answering.proofs.Answers.{tool_refused}
 use Rattle.answering.proofs.tool_figures.Goals as goal
 
-pub figures_in-requires : goal.figures_in-requires
-figures_in-requires c = λ e. rw (c.tool_summary.ensures.quantities e) (c.tool_summary.ensures.ordered e)
+pub returns-in_err-judge_log : goal.returns-in_err-judge_log
+returns-in_err-judge_log c =
+    let s = c.args.log.now in
+    let err : c.from_residual.result ≡ Err c.in_err-judge_log.field-0.0 = grind arith in
+    rw err (tool_refused s (figures_of (of_tool (decode s))) (Accurate (of_tool (decode s))) _ c.in_err-judge_log.ensures)
 
-pub returns : goal.returns
-returns c =
-    let a = c.args in
-    let q = of_tool (decode a.log.now) in
-    let m = c.tool_summary in
-    let s = m.ensures in
-    given_by figures-apart (verdict a.log.now) (figures_of q) (Accurate q) (OfLog a.log.now) m.result.verdict (figures_of m.result.quantities) _ c.figures_in.ensures s.answer
-    (λ e. ap figures_of (s.quantities e)) (λ e. accurate _ (s.ordered e)) (log-refusal a.log.now)
+pub figures_of_ordered-requires : goal.figures_of_ordered-requires
+figures_of_ordered-requires c = rw c.tool_quantities.ensures (tool_ordered _ c.in_ok-judge_log.field-0.consistent)

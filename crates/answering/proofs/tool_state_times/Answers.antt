@@ -1,18 +1,23 @@
--- `answering::tool_state_times` meets its contract: the summary's verdict decides, and its times are the log's.
+-- `answering::tool_state_times` meets its contract: an accepted log's account has the six times of the tool.
 -- Assumes nothing.
-use mathlib.Core.Path.{◌≡◌}
+use mathlib.Core.Path.{◌≡◌, ◌∙◌}
+use native.Mathlib.Omega.{arith}
+use Rattle.std.specs.declared.result.Result.TheVariants.{Ok, Err}
 use Rattle.records.specs.Log.{decode}
 use Rattle.rules.specs.Quantities.{all_times, tool_times, of_tool}
 use Rattle.rules.specs.Verdict.{verdict}
-use Rattle.rules.specs.Refusals.{OfLog}
-use Rattle.rules.proofs.KnownRefusals.{log-refusal}
-use Rattle.rules.proofs.Given.{given_by}
-use Rattle.answering.proofs.Answers.{times-apart}
+use Rattle.answering.proofs.Answers.{tool-whole, tool_refused, tool_answered}
 use Rattle.answering.proofs.tool_state_times.Goals as goal
+
+pub returns-in_err-judge_log : goal.returns-in_err-judge_log
+returns-in_err-judge_log c =
+    let s = c.args.log.now in
+    let err : c.from_residual.result ≡ Err c.in_err-judge_log.field-0.0 = grind arith in
+    rw err (tool_refused s (tool_times (decode s)) (λ t. all_times t ≡ (of_tool (decode s)).total) _ c.in_err-judge_log.ensures)
 
 pub returns : goal.returns
 returns c =
-    let a = c.args in
-    let m = c.tool_summary in
-    let s = m.ensures in
-    given_by times-apart (verdict a.log.now) (tool_times (decode a.log.now)) (λ t. all_times t ≡ (of_tool (decode a.log.now)).total) (OfLog a.log.now) m.result.verdict m.result.times _ c.times_in.ensures s.answer s.times s.whole (log-refusal a.log.now)
+    let s = c.args.log.now in
+    let accepted : verdict s ≡ Ok tt = rw (← c.in_ok-judge_log.ensures) c.in_ok-judge_log.field-0.accepted in
+    let consistent = rw c.in_ok-judge_log.ensures at c.in_ok-judge_log.field-0.consistent in
+    tool_answered s (tool_times (decode s)) (λ t. all_times t ≡ (of_tool (decode s)).total) _ accepted (rw c.in_ok-judge_log.ensures at c.tool_times.ensures) (tool-whole (decode s) consistent)

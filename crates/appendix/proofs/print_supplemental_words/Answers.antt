@@ -1,14 +1,11 @@
--- `appendix::print_supplemental_words` meets its contract: the words are the refusal's, and figures have none. Assumes nothing.
-use Rattle.appendix.proofs.Printed.{no_words, words_printed}
+-- `appendix::print_supplemental_words` meets its contract: what is answered has the verdict on log and benchmarks. Assumes nothing.
+use mathlib.Core.Path.{ap, ◌∙◌}
+use Rattle.rules.specs.Answers.{verdict_of}
+use Rattle.rules.proofs.Given.{own_verdict}
+use Rattle.printing.specs.Words.{words_by}
+use Rattle.appendix.specs.Lines.{supplemental_words}
 use Rattle.appendix.proofs.print_supplemental_words.Goals as goal
 
-pub returns-in-Answered : goal.returns-in-Answered
-returns-in-Answered c =
-    let a = c.args in
-    no_words a.log.now a.benchmarks.now c.tool_supplemental-answer.result c.tool_supplemental-answer.ensures c.in-Answered.field-0 c.in-Answered.is a.buf.now
-
-pub returns-in-Refused : goal.returns-in-Refused
-returns-in-Refused c =
-    let a = c.args in
-    let p = c.words_of in
-    words_printed a.log.now a.benchmarks.now c.tool_supplemental-answer.result c.tool_supplemental-answer.ensures c.in-Refused.x c.in-Refused.is a.buf.now p.result _ p.ensures
+pub returns : goal.returns
+unfolding supplemental_words
+returns c = rw (ap words_by (ap verdict_of c.tool_supplemental.ensures.answer ∙ own_verdict _ _)) at c.put_words.ensures

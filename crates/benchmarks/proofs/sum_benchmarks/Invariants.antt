@@ -1,12 +1,14 @@
 use mathlib.Core.Path.{◌≡◌}
-use Prim.Native.Nat.{◌-◌}
+use Rattle.std.specs.declared.result.Result.TheVariants.{Ok}
 use Rattle.records.specs.Log.{decode}
-use Rattle.benchmarks.specs.Benchmarks.{benchmark_at}
-use Rattle.benchmarks.proofs.Taking.{TakenTo}
+use Rattle.rules.specs.Grounds.{first_of}
+use Rattle.benchmarks.specs.Benchmarks.{benchmark_at, ground_at}
+use Rattle.benchmarks.specs.Taking.{sums_to}
 use Rattle.benchmarks.proofs.sum_benchmarks.Given as goal
 
 abbrev pub invariant-loop-i : goal.invariant-loop-i
-invariant-loop-i l = (l.n ≡ l.h.standards) × TakenTo (decode l.log) (benchmark_at l.benchmarks) l.n l.i l.sums
-
-abbrev pub decreases-loop-i : goal.decreases-loop-i
-decreases-loop-i l = l.n - l.i
+invariant-loop-i l =
+    record {
+      passed : first_of (ground_at (decode l.log.bytes.now) (benchmark_at l.benchmarks)) l.i ≡ Ok tt;
+      summed : l.sums ≡ sums_to (decode l.log.bytes.now) (benchmark_at l.benchmarks) l.i;
+    }

@@ -1,10 +1,20 @@
--- `card::explain` meets its contract: a row where the card has the number. Assumes nothing.
-use mathlib.Core.Path.{sym, ◌∙◌}
-use Rattle.card.proofs.OnCard.{row-none, row_of}
+-- `card::explain` meets its contract: every ground has its number on the card. Assumes nothing.
+use mathlib.Core.Path.{◌≡◌, refl}
+use Rattle.filling.proofs.Written.{front-nothing}
+use Rattle.rules.specs.declared.Ground.{Ground}
+use Rattle.rules.specs.declared.Ground.TheVariants.{NoHeader}
+use Rattle.rules.specs.Names.{number_of}
+use Rattle.card.specs.Card.{row_text, explained}
 use Rattle.card.proofs.explain.Goals as goal
 
-pub returns-then-is_on_card : goal.returns-then-is_on_card
-returns-then-is_on_card c = row_of _ (sym c.is_on_card.ensures ∙ c.if-is_on_card.true) c.put_row.ensures
+explained-ground : (g : Ground) → row_text (number_of g) ≡ explained (number_of g)
+unfolding explained
+explained-ground NoHeader = refl
+explained-ground g = refl
 
-pub returns : goal.returns
-returns c = row-none _ _ (sym c.is_on_card.ensures ∙ c.if-is_on_card.false)
+pub returns-in-Some : goal.returns-in-Some
+returns-in-Some c = rw (← c.in-Some.ensures, ← explained-ground c.in-Some.ground) c.put_row.ensures
+
+pub returns-in-None : goal.returns-in-None
+unfolding explained
+returns-in-None c = rw c.in-None.ensures (front-nothing 512 _)

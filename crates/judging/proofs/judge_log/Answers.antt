@@ -1,15 +1,137 @@
--- `judging::judge_log` meets its contract: the arrays start at zero, and the header read first is the log's.
+-- `judging::judge_log` meets its contract: the header, the state records, the standards with the unit records, and the sums are tested in turn.
 -- Assumes nothing.
-use mathlib.Core.Path.{refl, ap}
-use Rattle.records.specs.declared.Header.{Header}
+use mathlib.Core.Path.{◌≡◌, refl, sym, ap, ◌∙◌}
+use native.Mathlib.Omega.{arith}
+use Rattle.std.specs.declared.result.Result.TheVariants.{Ok, Err}
 use Rattle.records.specs.Log.{decode}
+use Rattle.rules.specs.Verdict.{header_grounds}
+use Rattle.judging.proofs.Judging.{counted, header_period, header_modules, judged_header, judged_states, judged_units, held, judged_speeds, judged_greats, all_consistent, all_accepted}
 use Rattle.judging.proofs.judge_log.Goals as goal
 
-pub judge_into-verdict-requires : goal.judge_into-verdict-requires
-judge_into-verdict-requires c = record { h_value = c.read_header-h.ensures; totals_value = (refl, refl, refl, refl) }
+pub returns-in_err-test_header : goal.returns-in_err-test_header
+returns-in_err-test_header c =
+    let err : c.from_residual.result ≡ Err c.in_err-test_header.field-0.0 = grind arith in
+    rw err (judged_header c.args.log.now _ (sym c.test_header.ensures ∙ c.in_err-test_header.was))
 
-pub returns : goal.returns
-unfolding decode
-returns c =
-    let h = c.read_header-h.ensures in
-    record { judged = c.judge_into-verdict.ensures; period = ap (λ (k : Header). k.period) h; modules = ap (λ (k : Header). k.modules) h }
+pub new-log-requires-clause-whole : goal.new-log-requires-clause-whole
+new-log-requires-clause-whole c =
+    let header : header_grounds c.args.log.now ≡ Ok tt = sym c.test_header.ensures ∙ c.in_ok-test_header.was in
+    let n = counted c.args.log.now _ c.read_header-h.ensures header in
+    n.whole
+
+pub tally_states-requires-clause-modules_bound : goal.tally_states-requires-clause-modules_bound
+tally_states-requires-clause-modules_bound c =
+    let header : header_grounds c.args.log.now ≡ Ok tt = sym c.test_header.ensures ∙ c.in_ok-test_header.was in
+    let n = counted c.args.log.now _ c.read_header-h.ensures header in
+    rw (c.states.ensures.1, c.new-log.ensures.1) n.modules.1
+
+pub returns-in_err-tally_states : goal.returns-in_err-tally_states
+returns-in_err-tally_states c =
+    let header : header_grounds c.args.log.now ≡ Ok tt = sym c.test_header.ensures ∙ c.in_ok-test_header.was in
+    let n = counted c.args.log.now _ c.read_header-h.ensures header in
+    let t = rw (c.states.ensures.0, c.states.ensures.1, c.new-log.ensures.0, c.new-log.ensures.1, c.read_header-h.ensures) at c.tally_states.ensures in
+    let err : c.from_residual-in_err-tally_states.result ≡ Err c.in_err-tally_states.field-0.0 = grind arith in
+    rw err (judged_states c.args.log.now header _ (sym t.answer ∙ c.in_err-tally_states.was))
+
+pub credit_units-requires-clause-counts_bound : goal.credit_units-requires-clause-counts_bound
+credit_units-requires-clause-counts_bound c =
+    let header : header_grounds c.args.log.now ≡ Ok tt = sym c.test_header.ensures ∙ c.in_ok-test_header.was in
+    let n = counted c.args.log.now _ c.read_header-h.ensures header in
+    rw (c.units.ensures.1, c.new-log.ensures.1) (n.counts.1, n.counts.2)
+
+pub returns-in_err-credit_units : goal.returns-in_err-credit_units
+returns-in_err-credit_units c =
+    let header : header_grounds c.args.log.now ≡ Ok tt = sym c.test_header.ensures ∙ c.in_ok-test_header.was in
+    let n = counted c.args.log.now _ c.read_header-h.ensures header in
+    let t = rw (c.states.ensures.0, c.states.ensures.1, c.new-log.ensures.0, c.new-log.ensures.1, c.read_header-h.ensures) at c.tally_states.ensures in
+    let fine = sym t.answer ∙ c.in_ok-tally_states.was in
+    let u = rw (c.units.ensures.0, c.units.ensures.1, c.new-log.ensures.0, c.new-log.ensures.1, c.read_header-h.ensures) at c.credit_units.ensures in
+    let err : c.from_residual-in_err-credit_units.result ≡ Err c.in_err-credit_units.field-0.0 = grind arith in
+    rw err (judged_units c.args.log.now header fine _ (sym u.answer ∙ c.in_err-credit_units.was))
+
+pub invariant_of-totals : goal.invariant_of-totals
+invariant_of-totals c =
+    let header : header_grounds c.args.log.now ≡ Ok tt = sym c.test_header.ensures ∙ c.in_ok-test_header.was in
+    let n = counted c.args.log.now _ c.read_header-h.ensures header in
+    let t = rw (c.states.ensures.0, c.states.ensures.1, c.new-log.ensures.0, c.new-log.ensures.1, c.read_header-h.ensures) at c.tally_states.ensures in
+    let fine = sym t.answer ∙ c.in_ok-tally_states.was in
+    let u = rw (c.units.ensures.0, c.units.ensures.1, c.new-log.ensures.0, c.new-log.ensures.1, c.read_header-h.ensures) at c.credit_units.ensures in
+    let good = sym u.answer ∙ c.in_ok-credit_units.was in
+    rw c.new-log.ensures.0
+    record {
+      period_value = header_period c.args.log.now _ c.read_header-h.ensures;
+      modules_value = header_modules c.args.log.now _ c.read_header-h.ensures;
+      working_totals = held c.args.log.now header fine good _ _ _ _ _ _ t c.in_ok-tally_states.was u c.in_ok-credit_units.was;
+    }
+
+pub test_speeds-requires : goal.test_speeds-requires
+test_speeds-requires c =
+    let header : header_grounds c.args.log.now ≡ Ok tt = sym c.test_header.ensures ∙ c.in_ok-test_header.was in
+    let n = counted c.args.log.now _ c.read_header-h.ensures header in
+    n.modules.1
+
+pub returns-in_err-test_speeds : goal.returns-in_err-test_speeds
+returns-in_err-test_speeds c =
+    let header : header_grounds c.args.log.now ≡ Ok tt = sym c.test_header.ensures ∙ c.in_ok-test_header.was in
+    let n = counted c.args.log.now _ c.read_header-h.ensures header in
+    let t = rw (c.states.ensures.0, c.states.ensures.1, c.new-log.ensures.0, c.new-log.ensures.1, c.read_header-h.ensures) at c.tally_states.ensures in
+    let fine = sym t.answer ∙ c.in_ok-tally_states.was in
+    let u = rw (c.units.ensures.0, c.units.ensures.1, c.new-log.ensures.0, c.new-log.ensures.1, c.read_header-h.ensures) at c.credit_units.ensures in
+    let good = sym u.answer ∙ c.in_ok-credit_units.was in
+    let speeds = rw (c.new-log.ensures.0, header_modules c.args.log.now _ c.read_header-h.ensures) at c.test_speeds.ensures in
+    let err : c.from_residual-in_err-test_speeds.result ≡ Err c.in_err-test_speeds.field-0.0 = grind arith in
+    rw err (judged_speeds c.args.log.now header fine good _ (sym speeds ∙ c.in_err-test_speeds.was))
+
+pub tool_quantities-requires : goal.tool_quantities-requires
+tool_quantities-requires c =
+    let header : header_grounds c.args.log.now ≡ Ok tt = sym c.test_header.ensures ∙ c.in_ok-test_header.was in
+    let n = counted c.args.log.now _ c.read_header-h.ensures header in
+    let t = rw (c.states.ensures.0, c.states.ensures.1, c.new-log.ensures.0, c.new-log.ensures.1, c.read_header-h.ensures) at c.tally_states.ensures in
+    let fine = sym t.answer ∙ c.in_ok-tally_states.was in
+    let u = rw (c.units.ensures.0, c.units.ensures.1, c.new-log.ensures.0, c.new-log.ensures.1, c.read_header-h.ensures) at c.credit_units.ensures in
+    let good = sym u.answer ∙ c.in_ok-credit_units.was in
+    let speeds = rw (c.new-log.ensures.0, header_modules c.args.log.now _ c.read_header-h.ensures) at c.test_speeds.ensures in
+    let fast = sym speeds ∙ c.in_ok-test_speeds.was in
+    rw c.new-log.ensures.0 (all_consistent c.args.log.now header fine good fast)
+
+pub tool_times-requires : goal.tool_times-requires
+tool_times-requires c =
+    let header : header_grounds c.args.log.now ≡ Ok tt = sym c.test_header.ensures ∙ c.in_ok-test_header.was in
+    let n = counted c.args.log.now _ c.read_header-h.ensures header in
+    let t = rw (c.states.ensures.0, c.states.ensures.1, c.new-log.ensures.0, c.new-log.ensures.1, c.read_header-h.ensures) at c.tally_states.ensures in
+    let fine = sym t.answer ∙ c.in_ok-tally_states.was in
+    let u = rw (c.units.ensures.0, c.units.ensures.1, c.new-log.ensures.0, c.new-log.ensures.1, c.read_header-h.ensures) at c.credit_units.ensures in
+    let good = sym u.answer ∙ c.in_ok-credit_units.was in
+    let speeds = rw (c.new-log.ensures.0, header_modules c.args.log.now _ c.read_header-h.ensures) at c.test_speeds.ensures in
+    let fast = sym speeds ∙ c.in_ok-test_speeds.was in
+    rw c.new-log.ensures.0 (all_consistent c.args.log.now header fine good fast)
+
+pub returns-in_err-refuses : goal.returns-in_err-refuses
+returns-in_err-refuses c =
+    let header : header_grounds c.args.log.now ≡ Ok tt = sym c.test_header.ensures ∙ c.in_ok-test_header.was in
+    let n = counted c.args.log.now _ c.read_header-h.ensures header in
+    let t = rw (c.states.ensures.0, c.states.ensures.1, c.new-log.ensures.0, c.new-log.ensures.1, c.read_header-h.ensures) at c.tally_states.ensures in
+    let fine = sym t.answer ∙ c.in_ok-tally_states.was in
+    let u = rw (c.units.ensures.0, c.units.ensures.1, c.new-log.ensures.0, c.new-log.ensures.1, c.read_header-h.ensures) at c.credit_units.ensures in
+    let good = sym u.answer ∙ c.in_ok-credit_units.was in
+    let speeds = rw (c.new-log.ensures.0, header_modules c.args.log.now _ c.read_header-h.ensures) at c.test_speeds.ensures in
+    let fast = sym speeds ∙ c.in_ok-test_speeds.was in
+    let err : c.from_residual-in_err-refuses.result ≡ Err c.in_err-refuses.field-0.0 = grind arith in
+    rw err (judged_greats c.args.log.now header fine good fast _ _ (rw (c.over_quantities.ensures, c.over_times.ensures, c.tool_quantities.ensures, c.tool_times.ensures, c.new-log.ensures.0) refl) (sym c.refuses.ensures ∙ c.in_err-refuses.was))
+
+pub invariant_of-result : goal.invariant_of-result
+invariant_of-result c =
+    let header : header_grounds c.args.log.now ≡ Ok tt = sym c.test_header.ensures ∙ c.in_ok-test_header.was in
+    let n = counted c.args.log.now _ c.read_header-h.ensures header in
+    let t = rw (c.states.ensures.0, c.states.ensures.1, c.new-log.ensures.0, c.new-log.ensures.1, c.read_header-h.ensures) at c.tally_states.ensures in
+    let fine = sym t.answer ∙ c.in_ok-tally_states.was in
+    let u = rw (c.units.ensures.0, c.units.ensures.1, c.new-log.ensures.0, c.new-log.ensures.1, c.read_header-h.ensures) at c.credit_units.ensures in
+    let good = sym u.answer ∙ c.in_ok-credit_units.was in
+    let speeds = rw (c.new-log.ensures.0, header_modules c.args.log.now _ c.read_header-h.ensures) at c.test_speeds.ensures in
+    let fast = sym speeds ∙ c.in_ok-test_speeds.was in
+    rw c.new-log.ensures.0
+    record {
+      accepted = all_accepted c.args.log.now header fine good fast;
+      own = refl;
+      consistent = all_consistent c.args.log.now header fine good fast;
+    }

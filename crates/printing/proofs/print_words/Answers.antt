@@ -1,17 +1,22 @@
--- `printing::print_words` meets its contract: the words are the refusal's, and an accepted log has none. Assumes nothing.
-use mathlib.Core.Path.{sym, ap, ◌∙◌}
-use Rattle.filling.proofs.Written.{front-nothing}
-use Rattle.printing.specs.Words.{words_by, in_words}
+-- `printing::print_words` meets its contract: what is judged has the log's verdict. Assumes nothing.
+use mathlib.Core.Path.{◌≡◌}
+use mathlib.Core.List.{List}
+use Prim.Native.Nat.{ℕ}
+use Rattle.std.specs.declared.result.Result.{Result}
+use Rattle.std.specs.declared.result.Result.TheVariants.{Ok, Err}
+use Rattle.std.specs.Prelude.{MatchResult}
+use Rattle.std.specs.Borrow.{Bor}
+use Rattle.rules.specs.declared.Refusal.{Refusal}
+use Rattle.rules.specs.Answers.{verdict_of}
+use Rattle.rules.specs.Verdict.{verdict}
+use Rattle.judging.specs.declared.Account.{Account}
+use Rattle.printing.specs.Words.{in_words}
 use Rattle.printing.proofs.print_words.Goals as goal
 
-pub returns-in-Refused : goal.returns-in-Refused
-unfolding in_words
-returns-in-Refused c =
-    let j = c.judge_log-j.ensures.judged in
-    rw (ap words_by (sym j.answer ∙ c.in-Refused.is)) c.words_of.ensures
+judged : (b : Bor (List ℕ)) (r : Result Account Refusal) → MatchResult r (λ a. a.log.bytes ≡ b) (λ x. verdict b.now ≡ Err x) → verdict b.now ≡ verdict_of r
+judged b (Ok a) m = rw m at a.accepted
+judged b (Err x) m = m
 
 pub returns : goal.returns
 unfolding in_words
-returns c =
-    let j = c.judge_log-j.ensures.judged in
-    rw (ap words_by (sym j.answer ∙ c.in_default.is)) (front-nothing 512 _)
+returns c = rw (judged c.args.log c.judge_log.result c.judge_log.ensures) c.put_words.ensures

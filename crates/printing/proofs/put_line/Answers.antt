@@ -1,22 +1,24 @@
 -- `printing::put_line` meets its contract: what the table tells of the module stands behind its number. Assumes nothing.
-use mathlib.Core.Path.{◌≡◌}
 use native.Mathlib.Omega.{arith}
+use Prim.Native.Nat.{◌<◌}
 use Rattle.records.specs.Log.{decode}
-use Rattle.rules.specs.Quantities.{module_times, of_module}
 use Rattle.filling.proofs.Written.{then, read_as}
-use Rattle.printing.specs.Tables.{numbers, told}
 use Rattle.printing.proofs.Printing.{told_same, line_decimal, line_length_lem}
 use Rattle.printing.proofs.put_line.Goals as goal
 
 pub put_decimal-number-requires : goal.put_decimal-number-requires
-put_decimal-number-requires c = omega (arith, c.requires.m_in_bounds, line_length_lem c.args.table (decode c.args.log.now) c.args.m c.requires.m_bound.1)
+put_decimal-number-requires c =
+    let low : c.args.m < 64 = omega (arith, c.args.account.now.consistent.few) in
+    omega (arith, line_length_lem c.args.table (decode c.args.account.now.log.bytes.now) c.args.m low)
 
 pub put_told-requires : goal.put_told-requires
 put_told-requires c =
-    let of_module_lem : let a = c.args in numbers (told a.table c.times_of-t.result c.quantities_of-q.result) ≡ numbers (told a.table (module_times (decode a.log.now) a.m) (of_module (decode a.log.now) a.m)) = told_same c.args.table c.times_of-t.ensures c.quantities_of-q.ensures in
-    rw of_module_lem (omega (arith, c.requires.m_in_bounds, c.put_decimal-number.ensures.next, line_length_lem c.args.table (decode c.args.log.now) c.args.m c.requires.m_bound.1))
+    let low : c.args.m < 64 = omega (arith, c.args.account.now.consistent.few) in
+    rw (told_same c.args.table c.module_times.ensures c.module_quantities.ensures)
+    (omega (arith, c.requires.m_in_bounds, line_length_lem c.args.table (decode c.args.account.now.log.bytes.now) c.args.m low))
 
 pub returns : goal.returns
 returns c =
-    let of_module_lem : let a = c.args in numbers (told a.table c.times_of-t.result c.quantities_of-q.result) ≡ numbers (told a.table (module_times (decode a.log.now) a.m) (of_module (decode a.log.now) a.m)) = told_same c.args.table c.times_of-t.ensures c.quantities_of-q.ensures in
-    read_as (line_decimal c.args.table (decode c.args.log.now) c.args.m c.requires.m_bound.1) ((then) c.put_decimal-number.ensures (read_as of_module_lem c.put_told.ensures))
+    let low : c.args.m < 64 = omega (arith, c.args.account.now.consistent.few) in
+    let told = read_as (told_same c.args.table c.module_times.ensures c.module_quantities.ensures) c.put_told.ensures in
+    read_as (line_decimal c.args.table (decode c.args.account.now.log.bytes.now) c.args.m low) ((then) c.put_decimal-number.ensures told)

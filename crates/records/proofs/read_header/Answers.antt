@@ -10,8 +10,8 @@ pub returns : goal.returns
 unfolding header_from
 returns c =
     let s = c.args.log.now in
-    let first : c.read_pair-both.result.first ≡ field s 0 56 = c.read_pair-both.ensures.0 in
-    let second : c.read_pair-both.result.second ≡ field s 56 24 = c.read_pair-both.ensures.1 in
+    let first : c.read_pair-first.result.0 ≡ field s 0 56 = c.read_pair-first.ensures.0 in
+    let second : c.read_pair-first.result.1 ≡ field s 56 24 = c.read_pair-first.ensures.1 in
     rw (
       first,
       second,

@@ -16,24 +16,24 @@ put_text-field-requires c = let s = c.args in omega (arith, figure-space s.n s.d
 pub put_places-requires : goal.put_places-requires
 unfolding shown places
 put_places-requires c =
-    let known = sym c.printed_of_ordered-printed.ensures ∙ c.in-Figure.is in
+    let known = sym c.printed_of_ordered-printed.ensures ∙ c.in-Some.is in
     let low = printed-le-one c.args.n c.args.d _ c.requires.portion.part known in
     (omega arith, omega (arith, figure-space c.args.n c.args.d, ap (λ x. length (shown x)) known))
 
 pub put_text-requires : goal.put_text-requires
 unfolding shown
 put_text-requires c =
-    let known = sym c.printed_of_ordered-printed.ensures ∙ c.in-NoBase.is in
+    let known = sym c.printed_of_ordered-printed.ensures ∙ c.in-None.is in
     omega (arith, figure-space c.args.n c.args.d, ap (λ x. length (shown x)) known)
 
-pub returns-in-Figure : goal.returns-in-Figure
+pub returns-in-Some : goal.returns-in-Some
 unfolding figure shown
-returns-in-Figure c =
-    let known = sym c.printed_of_ordered-printed.ensures ∙ c.in-Figure.is in
+returns-in-Some c =
+    let known = sym c.printed_of_ordered-printed.ensures ∙ c.in-Some.is in
     read_as (ap (λ x. ascii " " ++ shown x) (sym known)) (then c.put_text-field.ensures c.put_places.ensures)
 
-pub returns-in-NoBase : goal.returns-in-NoBase
+pub returns-in-None : goal.returns-in-None
 unfolding figure shown
-returns-in-NoBase c =
-    let known = sym c.printed_of_ordered-printed.ensures ∙ c.in-NoBase.is in
+returns-in-None c =
+    let known = sym c.printed_of_ordered-printed.ensures ∙ c.in-None.is in
     read_as (ap (λ x. ascii " " ++ shown x) (sym known)) (then c.put_text-field.ensures c.put_text.ensures)

@@ -1,36 +1,22 @@
 -- `reporting::print_report` meets its contract: one of the two texts is written at the front, and every report fits 2,494 bytes.
 -- Assumes nothing.
-use mathlib.Core.Path.{◌≡◌, sym, ◌∙◌}
+use mathlib.Core.Path.{◌≡◌}
 use native.Mathlib.Omega.{arith}
-use Rattle.rules.specs.declared.Verdict.TheVariants.{Accepted}
 use lib.Dec.{lit≤}
+use Rattle.std.specs.declared.result.Result.TheVariants.{Ok}
+use Rattle.rules.specs.Verdict.{verdict}
 use Rattle.reporting.specs.Reports.{report_text}
 use Rattle.reporting.proofs.Reporting.{report-longest, prints_refused, prints_text}
 use Rattle.reporting.proofs.print_report.Goals as goal
 
-pub returns-in-Refused : goal.returns-in-Refused
-returns-in-Refused c =
-    let a = c.args in
-    let j = c.judge_log-j.ensures.judged in
-    let p = c.put_refused_line in
-    prints_refused report_text 2494 a.log.now a.buf.now p.result p.new.buf _ (sym j.answer ∙ c.in-Refused.is) p.ensures (lit≤ tt)
-
 pub put_report-requires : goal.put_report-requires
-put_report-requires c =
-    let accepted : c.judge_log-j.result.verdict ≡ Accepted = c.in_default.is in
-    let j = c.judge_log-j.ensures in
-    let ok = j.judged.consistent accepted in
-    record {
-      period_value = (j.period, j.modules);
-      working_totals = j.judged.held accepted;
-      consistent = ok;
-      log_in_bounds = omega (arith, report-longest _ ok);
-    }
+put_report-requires c = omega (arith, report-longest _ c.in-Ok.account.consistent)
 
-pub returns : goal.returns
-returns c =
-    let accepted : c.judge_log-j.result.verdict ≡ Accepted = c.in_default.is in
-    let a = c.args in
-    let j = c.judge_log-j.ensures.judged in
-    let p = c.put_report in
-    prints_text report_text 2494 a.log.now a.buf.now p.result p.new.buf (sym j.answer ∙ accepted) (report-longest _ (j.consistent accepted)) p.ensures
+pub returns-in-Ok : goal.returns-in-Ok
+returns-in-Ok c =
+    let s = c.args.log.now in
+    let accepted : verdict s ≡ Ok tt = rw (← c.in-Ok.ensures) c.in-Ok.account.accepted in
+    prints_text report_text 2494 s c.args.buf.now c.put_report.result c.put_report.new.buf accepted (report-longest _ (rw c.in-Ok.ensures at c.in-Ok.account.consistent)) (rw c.in-Ok.ensures at c.put_report.ensures)
+
+pub returns-in-Err : goal.returns-in-Err
+returns-in-Err c = prints_refused report_text 2494 c.args.log.now c.args.buf.now c.put_refused_line.result c.put_refused_line.new.buf _ c.in-Err.ensures c.put_refused_line.ensures (lit≤ tt)

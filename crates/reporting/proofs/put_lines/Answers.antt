@@ -1,44 +1,26 @@
 -- `reporting::put_lines` meets its contract: the lines of the modules passed stand in the buffer.
 -- Assumes nothing.
-use mathlib.Core.Path.{◌≡◌, ap}
+use mathlib.Core.Path.{ap}
 use native.Mathlib.Omega.{arith}
 use Rattle.records.specs.Log.{decode}
 use Rattle.rules.specs.Quantities.{of_module}
-use Rattle.filling.specs.Buffer.{Put}
-use Rattle.report.specs.Report.{module_line, module_lines}
+use Rattle.report.specs.Report.{module_line}
 use Rattle.filling.proofs.Written.{read_as}
 use Rattle.report.proofs.Tables.{lined_none, lined_room, lined_more}
 use Rattle.reporting.proofs.put_lines.Goals as goal
 
 pub loop-m-init : goal.loop-m-init
-loop-m-init c = lined_none (λ m. module_line m (of_module (decode c.args.log.now) m)) c.args.modules c.args.buf.now c.args.at c.requires.modules_in_bounds
+loop-m-init c = let d = decode c.args.account.now.log.bytes.now in lined_none (λ m. module_line m (of_module d m)) d.modules c.args.buf.now c.args.at c.requires
 
-pub put_line-next-requires : goal.put_line-next-requires
-put_line-next-requires c =
+pub put_module_line-next-requires-clause-q_in_bounds : goal.put_module_line-next-requires-clause-q_in_bounds
+put_module_line-next-requires-clause-q_in_bounds c =
+    let d = decode c.args.account.now.log.bytes.now in
     let l = c.loop-m in
-    let low = c.loop-m-test.true in
-    record {
-      m_bound = (omega (arith, low, c.requires.period_value.1), omega (arith, low, c.requires.period_value.1, c.requires.consistent.few), c.requires.period_value.0);
-      working_totals = c.requires.working_totals;
-      consistent = c.requires.consistent;
-      m_in_bounds = (lined_room (λ m. module_line m (of_module (decode c.args.log.now) m)) c.args.modules c.args.buf.now c.args.at c.requires.modules_in_bounds l.m l.next l.buf low l.invariant).1;
-    }
+    rw c.module_quantities.ensures (lined_room (λ m. module_line m (of_module d m)) d.modules c.args.buf.now c.args.at c.requires l.m l.next l.buf (omega (arith, c.loop-m-test.true, c.modules-m-end.ensures.0)) l.invariant).1
 
 pub loop-m-preserved : goal.loop-m-preserved
 loop-m-preserved c =
+    let d = decode c.args.account.now.log.bytes.now in
     let l = c.loop-m in
-    let p = c.put_line-next in
-    lined_more (λ m. module_line m (of_module (decode c.args.log.now) m)) c.args.modules c.args.buf.now c.args.at c.requires.modules_in_bounds l.m l.next p.result l.buf p.new.buf c.loop-m-test.true l.invariant p.ensures
-
-pub overflow_step-m : goal.overflow_step-m
-overflow_step-m c = omega (arith, c.loop-m-test.true, c.requires.period_value.1, c.requires.consistent.few)
-
-pub loop-m-smaller : goal.loop-m-smaller
-loop-m-smaller c = omega (arith, c.loop-m-test.true)
-
-pub returns : goal.returns
-returns c =
-    let whole : let l = c.loop-m in Put (module_lines (of_module (decode c.args.log.now)) c.args.modules) c.args.buf.now c.args.at l.next l.buf = let l = c.loop-m in
-    let e : l.m ≡ c.args.modules = omega (arith, l.invariant.within, c.loop-m-test.false) in
-    read_as (ap (module_lines (of_module (decode c.args.log.now))) e) l.invariant.put in
-    whole
+    let p = c.put_module_line-next in
+    lined_more (λ m. module_line m (of_module d m)) d.modules c.args.buf.now c.args.at c.requires l.m l.next p.result l.buf p.new.buf (omega (arith, c.loop-m-test.true, c.modules-m-end.ensures.0)) l.invariant (read_as (ap (module_line l.m) c.module_quantities.ensures) p.ensures)

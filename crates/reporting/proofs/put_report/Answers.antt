@@ -5,8 +5,7 @@ use mathlib.Core.List.{List}
 use Prim.Native.Nat.{ℕ}
 use Rattle.records.specs.Log.{Log, decode}
 use Rattle.rules.specs.Quantities.{of_module, of_tool}
-use Rattle.filling.specs.Buffer.{Put}
-use Rattle.report.specs.Report.{heading, module_line, module_lines, tool_line, report_of}
+use Rattle.report.specs.Report.{heading, module_line, tool_line, report_of}
 use Rattle.report.proofs.Lengths.{heading-length}
 use Rattle.report.proofs.Tables.{head_room, lines_room, last_room, all_put}
 use Rattle.filling.proofs.Written.{read_as}
@@ -23,39 +22,31 @@ last l = tool_line (of_tool l)
 pub put_heading-lines-requires : goal.put_heading-lines-requires
 unfolding report_text report_of
 put_heading-lines-requires c =
-    let l = decode c.args.log.now in
-    rw heading-length at (head_room heading (line l) l.modules (last l) c.args.buf.now c.requires.log_in_bounds)
+    let l = decode c.args.account.now.log.bytes.now in
+    rw heading-length at (head_room heading (line l) l.modules (last l) c.args.buf.now c.requires)
 
 pub put_lines-tool-requires : goal.put_lines-tool-requires
 unfolding report_text report_of
 put_lines-tool-requires c =
     let p = c.put_heading-lines in
-    let l = decode c.args.log.now in
-    record {
-      period_value = c.requires.period_value;
-      working_totals = c.requires.working_totals;
-      consistent = c.requires.consistent;
-      modules_in_bounds = rw c.requires.period_value.1 (lines_room heading (line l) l.modules (last l) c.args.buf.now c.requires.log_in_bounds p.result p.new.buf p.ensures);
-    }
+    let l = decode c.args.account.now.log.bytes.now in
+    lines_room heading (line l) l.modules (last l) c.args.buf.now c.requires p.result p.new.buf p.ensures
 
-pub put_tool_line-requires : goal.put_tool_line-requires
+pub put_tool_line-requires-clause-ordered : goal.put_tool_line-requires-clause-ordered
+put_tool_line-requires-clause-ordered c = rw c.tool_quantities.ensures (tool_ordered _ c.args.account.now.consistent)
+
+pub put_tool_line-requires-clause-q_in_bounds : goal.put_tool_line-requires-clause-q_in_bounds
 unfolding report_text report_of
-put_tool_line-requires c =
-    let lined : let p = c.put_heading-lines in let l = decode c.args.log.now in Put (module_lines (of_module l) l.modules) p.new.buf p.result c.put_lines-tool.result c.put_lines-tool.new.buf = read_as (ap (module_lines (of_module (decode c.args.log.now))) c.requires.period_value.1) c.put_lines-tool.ensures in
+put_tool_line-requires-clause-q_in_bounds c =
     let p = c.put_heading-lines in
-    let l = decode c.args.log.now in
-    let e = c.tool_sums.ensures in
-    record {
-      ordered = rw e (tool_ordered l c.requires.consistent);
-      q_in_bounds = rw e (last_room heading (line l) l.modules (last l) c.args.buf.now c.requires.log_in_bounds p.result c.put_lines-tool.result p.new.buf c.put_lines-tool.new.buf p.ensures lined);
-    }
+    let l = decode c.args.account.now.log.bytes.now in
+    rw c.tool_quantities.ensures (last_room heading (line l) l.modules (last l) c.args.buf.now c.requires p.result c.put_lines-tool.result p.new.buf c.put_lines-tool.new.buf p.ensures c.put_lines-tool.ensures)
 
 pub returns : goal.returns
 unfolding report_text report_of
 returns c =
-    let lined : let p = c.put_heading-lines in let l = decode c.args.log.now in Put (module_lines (of_module l) l.modules) p.new.buf p.result c.put_lines-tool.result c.put_lines-tool.new.buf = read_as (ap (module_lines (of_module (decode c.args.log.now))) c.requires.period_value.1) c.put_lines-tool.ensures in
     let p = c.put_heading-lines in
     let q = c.put_tool_line in
-    let l = decode c.args.log.now in
-    all_put heading (line l) l.modules (last l) c.args.buf.now c.requires.log_in_bounds p.result c.put_lines-tool.result q.result p.new.buf c.put_lines-tool.new.buf q.new.buf p.ensures lined
-    (read_as (ap tool_line c.tool_sums.ensures) q.ensures)
+    let l = decode c.args.account.now.log.bytes.now in
+    all_put heading (line l) l.modules (last l) c.args.buf.now c.requires p.result c.put_lines-tool.result q.result p.new.buf c.put_lines-tool.new.buf q.new.buf p.ensures c.put_lines-tool.ensures
+    (read_as (ap tool_line c.tool_quantities.ensures) q.ensures)

@@ -3,46 +3,27 @@
 use mathlib.Core.Path.{◌≡◌}
 use Prim.Native.Nat.{◌≤◌}
 use lib.ListN.{length}
+use Rattle.std.specs.declared.result.Result.TheVariants.{Ok}
 use Rattle.records.specs.Log.{decode}
-use Rattle.rules.specs.declared.Verdict.TheVariants.{Accepted}
+use Rattle.rules.specs.Verdict.{verdict}
 use Rattle.reporting.specs.Reports.{report_text}
 use Rattle.reporting.proofs.Reporting.{room_refused, room_short, room_enough, written_none, written_all}
 use Rattle.reporting.proofs.write_report.Goals as goal
 
-pub returns-in-Refused : goal.returns-in-Refused
-returns-in-Refused c =
-    let a = c.args in
-    written_none a.log.now a.buf.now _ (room_refused a.log.now (length a.buf.now) _ c.judge_log-j.ensures.judged.answer _ c.in-Refused.is)
-
-pub report_length-requires : goal.report_length-requires
-report_length-requires c =
-    let accepted : c.judge_log-j.result.verdict ≡ Accepted = c.in_default.is in
-    let j = c.judge_log-j.ensures in
-    record { period_value = (j.period, j.modules); working_totals = j.judged.held accepted; consistent = j.judged.consistent accepted }
+pub returns-in_default : goal.returns-in_default
+returns-in_default c = written_none c.args.log.now c.args.buf.now _ (room_refused c.args.log.now (length c.args.buf.now) _ c.in_default.ensures)
 
 pub returns-then-buf-report_length : goal.returns-then-buf-report_length
 returns-then-buf-report_length c =
-    let accepted : c.judge_log-j.result.verdict ≡ Accepted = c.in_default.is in
-    let a = c.args in
-    written_none a.log.now a.buf.now _
-    (room_short a.log.now (length a.buf.now) _ c.judge_log-j.ensures.judged.answer accepted (rw (← c.report_length.ensures) c.if-buf-report_length.true))
-
-pub put_report-requires : goal.put_report-requires
-put_report-requires c =
-    let accepted : c.judge_log-j.result.verdict ≡ Accepted = c.in_default.is in
-    let fits : let a = c.args in length (report_text (decode a.log.now)) ≤ length a.buf.now = rw (← c.report_length.ensures) c.if-buf-report_length.false in
-    let j = c.judge_log-j.ensures in
-    record {
-      period_value = (j.period, j.modules);
-      working_totals = j.judged.held accepted;
-      consistent = j.judged.consistent accepted;
-      log_in_bounds = fits;
-    }
+    let s = c.args.log.now in
+    let accepted : verdict s ≡ Ok tt = rw (← c.in-Ok.ensures) c.in-Ok.account.accepted in
+    let size = rw c.in-Ok.ensures at c.report_length.ensures in
+    written_none s c.args.buf.now _ (room_short s (length c.args.buf.now) accepted (rw (← size) c.if-buf-report_length.true))
 
 pub returns : goal.returns
 returns c =
-    let accepted : c.judge_log-j.result.verdict ≡ Accepted = c.in_default.is in
-    let fits : let a = c.args in length (report_text (decode a.log.now)) ≤ length a.buf.now = rw (← c.report_length.ensures) c.if-buf-report_length.false in
-    let a = c.args in
-    let j = c.judge_log-j.ensures.judged in
-    written_all a.log.now a.buf.now c.put_report.result c.put_report.new.buf (j.consistent accepted) (room_enough a.log.now (length a.buf.now) _ j.answer accepted fits) fits c.put_report.ensures
+    let s = c.args.log.now in
+    let accepted : verdict s ≡ Ok tt = rw (← c.in-Ok.ensures) c.in-Ok.account.accepted in
+    let size = rw c.in-Ok.ensures at c.report_length.ensures in
+    let fits : length (report_text (decode s)) ≤ length c.args.buf.now = rw (← size) c.if-buf-report_length.false in
+    written_all s c.args.buf.now c.put_report.result c.put_report.new.buf (rw c.in-Ok.ensures at c.in-Ok.account.consistent) (room_enough s (length c.args.buf.now) accepted fits) fits (rw c.in-Ok.ensures at c.put_report.ensures)

@@ -1,14 +1,15 @@
--- `saying::put_shown` meets its contract: after i turns the first i bytes are copied as they are shown. Assumes nothing.
-use Rattle.saying.proofs.Shown.{shown_none, shown_more, shown_all}
+-- `saying::put_shown` meets its contract: each byte is put behind those before it. Assumes nothing.
+use Rattle.std.proofs.Common.{sym}
+use Rattle.std.proofs.lemmas.List.{map_more}
+use Rattle.filling.proofs.Written.{then, read_as, put-nothing}
+use Rattle.saying.specs.Names.{shown_byte}
 use Rattle.saying.proofs.put_shown.Goals as goal
 
-pub loop-i-init : goal.loop-i-init
-loop-i-init c = shown_none c.args.name.now _ _ c.requires
+pub loop-b-init : goal.loop-b-init
+loop-b-init c = put-nothing _ _
 
-pub loop-i-preserved : goal.loop-i-preserved
-loop-i-preserved c =
-    let l = c.loop-i in
-    shown_more c.args.name.now _ _ c.requires l.i _ _ c.loop-i-test.true c.shown_byte.ensures l.invariant
-
-pub returns : goal.returns
-returns c = shown_all c.args.name.now _ _ c.requires _ _ c.loop-i-test.false c.loop-i.invariant
+pub loop-b-preserved : goal.loop-b-preserved
+loop-b-preserved c =
+    let l = c.loop-b in
+    let e = c.shown_byte.ensures in
+    read_as (rw e (sym (map_more shown_byte c.args.name.now l.b-index 0 c.loop-b-test.true))) ((then) l.invariant c.put_text-next.ensures)

@@ -1,12 +1,8 @@
-use Prim.Native.Nat.{◌-◌}
 use mathlib.Core.List.{map}
-use lib.ListN.{length}
-use Rattle.filling.proofs.Written.{Copied}
+use lib.ListN.{take}
+use Rattle.filling.specs.Buffer.{Put}
 use Rattle.saying.specs.Names.{shown_byte}
 use Rattle.saying.proofs.put_shown.Given as goal
 
-abbrev pub invariant-loop-i : goal.invariant-loop-i
-invariant-loop-i l = Copied (map shown_byte l.name) l.initial.buf l.at l.i l.buf
-
-abbrev pub decreases-loop-i : goal.decreases-loop-i
-decreases-loop-i l = length l.name - l.i
+abbrev pub invariant-loop-b : goal.invariant-loop-b
+invariant-loop-b l = Put (map shown_byte (take l.b-index l.name)) l.fn.buf l.at l.next l.buf

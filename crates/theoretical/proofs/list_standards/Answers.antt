@@ -1,47 +1,34 @@
--- `theoretical::list_standards` meets its contract: the standards before the one in turn were tested, passed and listed.
+-- `list_standards` meets its contract: the standards ahead of the one in turn passed and are listed.
 -- Assumes nothing.
-use mathlib.Core.Path.{refl}
+use mathlib.Core.Path.{refl, sym}
 use native.Mathlib.Omega.{arith}
-use Rattle.records.specs.Log.{standard_at}
-use Rattle.theoretical.proofs.Listings.{listed_none, listed_step, listed_stop, listed_all}
+use Rattle.std.proofs.lemmas.Result.{err_from_is_err_and}
+use Rattle.records.specs.Log.{up_to, standard_at}
+use Rattle.rules.specs.Grounds.{in_turn}
+use Rattle.rules.specs.RecordGrounds.{standard_ground, standard_grounds}
+use Rattle.rules.specs.Sequence.{standard_key}
+use Rattle.rules.specs.Keys.{standard_number, StandardFits}
+use Rattle.rules.proofs.Keys.{sequenced_none}
+use Rattle.theoretical.proofs.Turns.{turn_more, turn_stop}
 use Rattle.theoretical.proofs.list_standards.Goals as goal
 
 pub loop-i-init : goal.loop-i-init
-loop-i-init c =
-    let a = c.args in
-    (refl, listed_none a.h.period a.h.modules (standard_at a.log.now a.h) a.h.standards a.starts.now a.times.now a.pairs.now a.ahead.now a.last.now c.requires.listing)
+unfolding standard_grounds in_turn up_to
+loop-i-init c = record { passed = refl; sequenced = rw c.requires.none_listed (sequenced_none standard_key standard_number StandardFits (λ s. omega arith)); listed = c.requires.none_listed }
 
-pub list_standard-verdict-requires : goal.list_standard-verdict-requires
-list_standard-verdict-requires c =
-    let l = c.loop-i in
-    record { standards_sequenced = l.invariant.1.sequenced; listing = l.invariant.1.listing; i_bound = (omega (arith, c.loop-i-test.true, c.requires.standards_bound.0), (omega (arith, c.loop-i-test.true, c.requires.standards_bound.1.0), c.requires.standards_bound.1.1)) }
-
-pub returns-in-Refused : goal.returns-in-Refused
-returns-in-Refused c =
-    let a = c.args in
-    let l = c.loop-i in
-    let r = c.list_standard-verdict in
-    listed_stop a.h.period a.h.modules (standard_at a.log.now a.h) a.h.standards l.i l.before l.starts l.times l.pairs l.ahead l.last c.loop-i-test.true l.invariant.1
-    r.result r.new.before r.new.starts r.new.times r.new.pairs r.new.ahead r.new.last r.ensures _ c.in-Refused.is
+pub returns-in_err-list_standard-clause-answer : goal.returns-in_err-list_standard-clause-answer
+unfolding standard_grounds
+returns-in_err-list_standard-clause-answer c =
+    let at = standard_at c.args.log.bytes.now c.args.log.header in
+    let p = err_from_is_err_and c.from_residual.result c.from_residual.ensures.1 in
+    rw (p.1, p.2) (sym (turn_stop (standard_ground c.args.log.header.period c.args.log.header.modules) at c.args.log.header.standards c.loop-i.i _ c.loop-i-test.true c.loop-i.invariant.passed (sym c.in_err-list_standard.ensures.answer)))
 
 pub loop-i-preserved : goal.loop-i-preserved
+unfolding standard_grounds
 loop-i-preserved c =
-    let a = c.args in
-    let l = c.loop-i in
-    let r = c.list_standard-verdict in (
-      refl,
-      listed_step a.h.period a.h.modules (standard_at a.log.now a.h) a.h.standards l.i l.before l.starts l.times l.pairs l.ahead l.last c.loop-i-test.true l.invariant.1
-          r.result r.new.before r.new.starts r.new.times r.new.pairs r.new.ahead r.new.last r.ensures c.in_default.is,
-    )
-
-pub returns : goal.returns
-returns c =
-    let l = c.loop-i in
-    let a = c.args in
-    listed_all a.h.period a.h.modules (standard_at a.log.now a.h) a.h.standards l.i l.before l.starts l.times l.pairs l.ahead l.last c.loop-i-test.false l.invariant.1
-
-pub overflow_step-i : goal.overflow_step-i
-overflow_step-i c = omega (arith, c.loop-i-test.true, c.requires.standards_bound)
-
-pub loop-i-smaller : goal.loop-i-smaller
-loop-i-smaller c = omega (arith, c.loop-i-test.true)
+    let at = standard_at c.args.log.bytes.now c.args.log.header in
+    record {
+      passed = turn_more (standard_ground c.args.log.header.period c.args.log.header.modules) at c.loop-i.i c.loop-i.invariant.passed (sym c.in_ok-list_standard.ensures.answer);
+      sequenced = c.in_ok-list_standard.ensures.sequenced;
+      listed = c.in_ok-list_standard.ensures.listed;
+    }

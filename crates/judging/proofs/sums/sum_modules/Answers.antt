@@ -17,27 +17,9 @@ loop-m-preserved c =
     let l = c.loop-m in
     (omega (arith, c.loop-m-test.true), ap (λ (x : ℕ). x + get_or a.values.now l.m 0) l.invariant.1 ∙ sym (sum_more (λ j. get_or a.values.now j 0) l.m))
 
-pub returns : goal.returns
-returns c =
-    let l = c.loop-m in
-    let a = c.args in
-    l.invariant.1 ∙ ap (sum_below (λ j. get_or a.values.now j 0)) (omega (arith, l.invariant.0, c.loop-m-test.false))
-
-pub offset_bounds-values-m : goal.offset_bounds-values-m
-offset_bounds-values-m c = omega (arith, c.loop-m-test.true, c.requires.0)
-
-pub bounds-values-m : goal.bounds-values-m
-bounds-values-m c = omega (arith, c.loop-m-test.true, c.requires.0)
-
 pub overflow_add-sum : goal.overflow_add-sum
 overflow_add-sum c =
     let low : let a = c.args in let l = c.loop-m in (l.sum ≤ 31622400000 * l.m) × (get_or a.values.now l.m 0 ≤ 31622400000) = let a = c.args in
     let l = c.loop-m in
     (rw l.invariant.1 (sum_low (λ j. get_or a.values.now j 0) 31622400000 l.m (λ j h. c.requires.1 j (omega (arith, c.loop-m-test.true)))), c.requires.1 l.m c.loop-m-test.true) in
     omega (arith, low, c.loop-m-test.true, c.requires.0)
-
-pub overflow_step-m : goal.overflow_step-m
-overflow_step-m c = omega (arith, c.loop-m-test.true, c.requires.0)
-
-pub loop-m-smaller : goal.loop-m-smaller
-loop-m-smaller c = omega (arith, c.loop-m-test.true)
