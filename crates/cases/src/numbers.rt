@@ -88,7 +88,7 @@ pub fn as_expected(kind: usize, log: &[u8], m: usize, expected: &[u8]) -> bool
     same(&numbers, expected)
 }
 
-// The same of the supplemental figures.
+// The same of the supplemental figures: a call of its own, since it is asked for benchmarks, and the others for a module.
 pub fn measured_as_expected(log: &[u8], benchmarks: &[u8], expected: &[u8]) -> bool
     ensures { (result ≡ true) ↔ Numbers expected.now (measured_of log.now benchmarks.now) }
 {

@@ -1,4 +1,5 @@
 // The effective units that each standard judges: those of the unit records for which it was the standard in force.
+// That there are at most 512 standards stands in three contracts: each call asks for the bound that its array needs.
 #![tactic(auto)]
 
 ghost use Rattle.std.specs.Prelude.{◌≡◌, true, ◌+◌, ◌*◌, ◌^◌, ◌<◌, ◌≤◌, get_or, set, replicate};

@@ -34,6 +34,7 @@ fn is_over(n: u64) -> bool
     9007199254740991 < n
 }
 
+// Number by number, as the definitions have them: out of a slice the five and the six would have to be found again.
 fn any_over(a: u64, b: u64, c: u64, d: u64, e: u64) -> bool
     ensures { result ≡ is_over a || (is_over b || (is_over c || (is_over d || is_over e))) }
 {

@@ -118,6 +118,7 @@ struct Tally<'a> {
 }
 
 impl<'a> Tally<'a> {
+    // A `&mut self` could exchange the lent totals: that it does not (`same_totals`) is said by each call.
     // Ends module m's open stretch: its length is added to the total of its state.
     fn end_stretch(&mut self, m: usize, end: u64)
         requires module_bound { m < 64 }

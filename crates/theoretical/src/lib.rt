@@ -92,7 +92,7 @@ fn test_unit(h: Header, i: usize, u: UnitRecord) -> Result<(), Refusal>
     Ground::OverGood.refuses(u.actual < u.effective, LogList::Units, i)
 }
 
-// A unit record's time, module and recipe in one number above 0, by which unit records ascend.
+// A unit record's time, module and recipe in one number above 0, by which unit records ascend: no derived order here either.
 fn unit_number(u: UnitRecord) -> u64
     requires { UnitFits u }
     ensures { result ≡ unit_number u }
@@ -110,7 +110,7 @@ fn credit(sums: &mut [u64; 64], m: usize, units: u64, theoretical: u64)
 }
 
 // Unit record i tested, and its units credited to its module where it passes. `byte` is where it begins, and `before` the number of the
-// record before it, 0 where there is none.
+// record before it, 0 where there is none. The sums and `before` are parameters and no struct: each contract would speak of it before and after.
 fn credit_unit(
     log: UnitRecords<'_>,
     i: usize,
