@@ -1,12 +1,12 @@
 -- From a log judged to what a call answers.
 -- Assumes nothing.
-use mathlib.Core.Path.{◌≡◌, refl, sym, ap, ◌∙◌}
+use mathlib.Core.Path.{◌≡◌, refl, ap, ◌∙◌}
 use mathlib.Core.Bool.{Bool, true, false}
 use mathlib.Core.List.{List}
-use Prim.Native.Nat.{ℕ, ◌+◌, ◌≤◌, ◌<◌}
+use Prim.Native.Nat.{ℕ, ◌+◌, ◌<◌}
 use native.Mathlib.Omega.{arith}
 use lib.Dec.{leb}
-use borrow.Author.Tests.{leb-true, leb-false}
+use borrow.Author.Tests.{leb-true, leb-false, lt-leb}
 use Rattle.records.specs.Log.{Log, decode}
 use Rattle.rules.specs.declared.Refusal.{Refusal}
 use Rattle.rules.specs.declared.Ground.TheVariants.{StrayModule}
@@ -51,6 +51,9 @@ module _ (s : List ℕ) (m : ℕ) where
   pub known-module : ground StrayModule NoList m (leb (decode s).modules m) ≡ Ok tt → m < (decode s).modules
   known-module e = leb-false (decode s).modules m (not-met StrayModule NoList m (leb (decode s).modules m) e)
 
+  known-on : verdict s ≡ Ok tt → m < (decode s).modules → verdict_on s m ≡ Ok tt
+  known-on e l = accepted-on e ∙ ap (λ (b : Bool). ground StrayModule NoList m b) (lt-leb (decode s).modules m l)
+
 -- ---- answers
 
 pub module-refusal : (s : List ℕ) (m : ℕ) (x : Refusal) → verdict_on s m ≡ Err x → OnModule s m x
@@ -75,11 +78,8 @@ module _ (s : List ℕ) {A : Type 0} (a : A) (Promise : A → Type 0) where
   tool_answered b e q p = given_answered (verdict s) a Promise (OfLog s) b e q p
 
   module _ (m : ℕ) where
-    pub module_refused : (x : Refusal) → verdict s ≡ Err x → Given (verdict_on s m) a Promise (OnModule s m) (Err x)
-    module_refused x e = let r = refused-on s m x e in given_refused (verdict_on s m) a Promise (OnModule s m) x r (module-refusal s m x r)
+    pub module_refused : (x : Refusal) → verdict_on s m ≡ Err x → Given (verdict_on s m) a Promise (OnModule s m) (Err x)
+    module_refused x e = given_refused (verdict_on s m) a Promise (OnModule s m) x e (module-refusal s m x e)
 
-    pub module_stray : (x : Refusal) → verdict s ≡ Ok tt → ground StrayModule NoList m (leb (decode s).modules m) ≡ Err x → Given (verdict_on s m) a Promise (OnModule s m) (Err x)
-    module_stray x e g = let r = accepted-on s m e ∙ g in given_refused (verdict_on s m) a Promise (OnModule s m) x r (module-refusal s m x r)
-
-    pub module_answered : (b : A) → verdict s ≡ Ok tt → ground StrayModule NoList m (leb (decode s).modules m) ≡ Ok tt → b ≡ a → Promise a → Given (verdict_on s m) a Promise (OnModule s m) (Ok b)
-    module_answered b e g q p = given_answered (verdict_on s m) a Promise (OnModule s m) b (accepted-on s m e ∙ g) q p
+    pub module_answered : (b : A) → verdict s ≡ Ok tt → m < (decode s).modules → b ≡ a → Promise a → Given (verdict_on s m) a Promise (OnModule s m) (Ok b)
+    module_answered b e l q p = given_answered (verdict_on s m) a Promise (OnModule s m) b (known-on s m e l) q p

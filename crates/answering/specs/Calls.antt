@@ -18,13 +18,15 @@ use Rattle.rules.specs.Verdict.{verdict, verdict_on}
 use Rattle.rules.specs.Refusals.{OfLog}
 use Rattle.rules.specs.Answers.{Given}
 use Rattle.rules.specs.Grounds.{refusal}
+use Rattle.losses.specs.declared.Losses.{Losses}
+use Rattle.losses.specs.Losses.{losses_of, AddsUp}
 
 -- a call about module m: a refusal of the log, or 7 with list 0, for a module that an accepted log does not have
 pub data OnModule (s : List ℕ) (m : ℕ) (x : Refusal) : Type 0 where
   of_log : OfLog s x → OnModule s m x
   stray : verdict s ≡ Ok tt → (decode s).modules ≤ m → x ≡ refusal StrayModule NoList m → OnModule s m x
 
--- ---- the six calls
+-- ---- the eight calls
 
 -- the six times of a module add up to the period
 abbrev pub ModuleTimes : List ℕ → ℕ → Result StateTimes Refusal → Type 0
@@ -46,3 +48,10 @@ ModuleFigures s m r = Given (verdict_on s m) (figures_of (of_module (decode s) m
 
 abbrev pub ToolFigures : List ℕ → Result Figures Refusal → Type 0
 ToolFigures s r = Given (verdict s) (figures_of (of_tool (decode s))) (Accurate (of_tool (decode s))) (OfLog s) r
+
+-- the five make 10,000, and no other five that do lie nearer: `AddsUp`
+abbrev pub ModuleLosses : List ℕ → ℕ → Result Losses Refusal → Type 0
+ModuleLosses s m r = Given (verdict_on s m) (losses_of (of_module (decode s) m)) (AddsUp (of_module (decode s) m)) (OnModule s m) r
+
+abbrev pub ToolLosses : List ℕ → Result Losses Refusal → Type 0
+ToolLosses s r = Given (verdict s) (losses_of (of_tool (decode s))) (AddsUp (of_tool (decode s))) (OfLog s) r

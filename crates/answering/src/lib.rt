@@ -1,30 +1,33 @@
-// The calls for state times, quantities and doubles, of a module and of the tool. None has a `requires`. Each is answered by a definition of its own
-// and called from C by a name of its own: a generic call over what is asked for would be a seventh name, and no shorter.
+// The calls for state times, quantities, doubles and losses, of a module and of the tool. None has a `requires`. Each is answered by a definition of its
+// own and called from C by a name of its own: a generic call over what is asked for would be a ninth name, and no shorter.
 #![tactic(auto)]
 
-ghost use Rattle.std.specs.Prelude.{◌≡◌, leb};
+ghost use Rattle.std.specs.Prelude.{◌≡◌, ◌<◌};
+ghost use Rattle.std.specs.Result.{MatchResult};
+ghost use Rattle.std.specs.declared.result.Result.TheVariants.{Err};
 ghost use Rattle.records.specs.Log.{decode};
-ghost use Rattle.rules.specs.Grounds.{ground};
-ghost use Rattle.answering.specs.Calls.{ModuleTimes, ToolTimes, ModuleQuantities, ToolQuantities, ModuleFigures, ToolFigures};
+ghost use Rattle.rules.specs.Verdict.{verdict_on};
+ghost use Rattle.answering.specs.Calls.{ModuleTimes, ToolTimes, ModuleQuantities, ToolQuantities, ModuleFigures, ToolFigures, ModuleLosses, ToolLosses};
 
 use e79::{Figures, Quantities};
 use judging::Account;
+use losses::Losses;
 use rules::{Ground, LogList, Refusal, StateTimes};
 
-// A module that an accepted log does not have is stray.
-fn known_module(account: &Account<'_>, m: usize) -> Result<(), Refusal>
-    ensures { result ≡ ground Ground.StrayModule LogList.NoList m (leb (decode account.now.log.bytes.now).modules m) }
+// The account of an accepted log that has module m: one that it does not have is stray.
+fn judge_module(log: &[u8], m: usize) -> Result<Account<'_>, Refusal>
+    ensures { MatchResult result (λ a. (a.log.bytes ≡ log.entry) × (m < (decode log.entry.now).modules)) (λ x. verdict_on log.entry.now m ≡ Err x) }
 {
-    Ground::StrayModule.refuses(account.modules() <= m, LogList::NoList, m)
+    let account = judging::judge_log(log)?;
+    Ground::StrayModule.refuses(account.modules() <= m, LogList::NoList, m)?;
+    Ok(account)
 }
 
 // The six state times of module m.
 pub fn module_state_times(log: &[u8], m: usize) -> Result<StateTimes, Refusal>
     ensures { ModuleTimes log.now m result }
 {
-    let account = judging::judge_log(log)?;
-    known_module(&account, m)?;
-    Ok(account.module_times(m))
+    Ok(judge_module(log, m)?.module_times(m))
 }
 
 // The tool's, which sum those of its modules.
@@ -38,9 +41,7 @@ pub fn tool_state_times(log: &[u8]) -> Result<StateTimes, Refusal>
 pub fn module_quantities(log: &[u8], m: usize) -> Result<Quantities, Refusal>
     ensures { ModuleQuantities log.now m result }
 {
-    let account = judging::judge_log(log)?;
-    known_module(&account, m)?;
-    Ok(account.module_quantities(m))
+    Ok(judge_module(log, m)?.module_quantities(m))
 }
 
 // The tool's.
@@ -54,9 +55,7 @@ pub fn tool_quantities(log: &[u8]) -> Result<Quantities, Refusal>
 pub fn module_figures(log: &[u8], m: usize) -> Result<Figures, Refusal>
     ensures { ModuleFigures log.now m result }
 {
-    let account = judging::judge_log(log)?;
-    known_module(&account, m)?;
-    Ok(e79::figures_of_ordered(account.module_quantities(m)))
+    Ok(e79::figures_of_ordered(judge_module(log, m)?.module_quantities(m)))
 }
 
 // The tool's.
@@ -64,4 +63,18 @@ pub fn tool_figures(log: &[u8]) -> Result<Figures, Refusal>
     ensures { ToolFigures log.now result }
 {
     Ok(e79::figures_of_ordered(judging::judge_log(log)?.tool_quantities()))
+}
+
+// The losses of module m, which add up.
+pub fn module_losses(log: &[u8], m: usize) -> Result<Losses, Refusal>
+    ensures { ModuleLosses log.now m result }
+{
+    Ok(losses::losses_of_ordered(judge_module(log, m)?.module_quantities(m)))
+}
+
+// The tool's.
+pub fn tool_losses(log: &[u8]) -> Result<Losses, Refusal>
+    ensures { ToolLosses log.now result }
+{
+    Ok(losses::losses_of_ordered(judging::judge_log(log)?.tool_quantities()))
 }

@@ -1,5 +1,5 @@
 -- The printed figure, by its definition, is the nearest whole number, a half going up, and at most 10,000 (1.0000); and two steps of times 100 come to it. Assumes nothing.
-use mathlib.Core.Path.{◌≡◌, sym}
+use mathlib.Core.Path.{◌≡◌, sym, ap}
 use mathlib.Core.Logic.{inl, inr}
 use Prim.Native.Nat.{ℕ, zero, suc, ◌+◌, ◌*◌, ◌/◌, ◌%◌, ◌≤◌, ◌<◌}
 use native.Mathlib.Nat.{zero-lt-suc, mul_right_comm, mul_left_comm, mul-le-mul_right, add-mul, one-mul, suc-mul, mod-lt, div-add-mod', div-eq_of_lt-le, div-mul-le_self, lt-div-mul-add, div-lt_iff_lt-mul, div-le_of_le-mul}
@@ -72,8 +72,20 @@ module _ (n d : ℕ) where
   steps : whole * d + rest ≡ 10000 * n
   steps = rw (add-mul, mul_right_comm (n * 100 / d) 100 d) (omega (arith, div-add-mod' (n * 100) d, div-add-mod' (n * 100 % d * 100) d))
 
-  pub half_not_reached : rest * 2 < d → whole ≡ rounded_of n d
-  half_not_reached h = only whole n d (omega (arith, steps)) (omega (arith, steps))
+  pub steps_whole : 0 < d → whole ≡ 10000 * n / d
+  steps_whole D = sym (div-eq_of_lt-le d (omega (arith, steps)) (rw (add-mul whole 1 d, one-mul) (omega (arith, steps, mod-lt (n * 100 % d * 100) D))))
 
-  pub half_reached : rest < d → d ≤ rest * 2 → whole + 1 ≡ rounded_of n d
-  half_reached l h = only (whole + 1) n d (rw (add-mul whole 1 d, one-mul) (omega (arith, steps))) (rw (add-mul whole 1 d, one-mul) (omega (arith, steps)))
+  pub steps_rest : 0 < d → rest ≡ 10000 * n % d
+  steps_rest D =
+      let w : whole * d ≡ 10000 * n / d * d = ap (λ (x : ℕ). x * d) (steps_whole D) in
+      omega (arith, w, steps, div-add-mod' (10000 * n) d)
+
+  -- ---- what is left then is less than half of the denominator, or not
+  pub half_not_reached : 0 < d → 10000 * n % d * 2 < d → 10000 * n / d ≡ rounded_of n d
+  half_not_reached D h = only (10000 * n / d) n d (omega (arith, div-add-mod' (10000 * n) d)) (omega (arith, div-add-mod' (10000 * n) d))
+
+  pub half_reached : 0 < d → d ≤ 10000 * n % d * 2 → 10000 * n / d + 1 ≡ rounded_of n d
+  half_reached D h =
+      let e = div-add-mod' (10000 * n) d in
+      let l = mod-lt (10000 * n) D in
+      only (10000 * n / d + 1) n d (rw (add-mul (10000 * n / d) 1 d, one-mul) (omega (arith, e, l))) (rw (add-mul (10000 * n / d) 1 d, one-mul) (omega (arith, e, l)))

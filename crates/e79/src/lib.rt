@@ -8,7 +8,7 @@
 // every accepted log.
 #![tactic(auto)]
 
-ghost use Rattle.std.specs.Prelude.{◌≡◌, ◌<◌, ◌^◌};
+ghost use Rattle.std.specs.Prelude.{◌≡◌, ◌*◌, ◌/◌, ◌%◌, ◌<◌, ◌^◌};
 ghost use Rattle.e79.specs.Quantities.{Ordered, Portion, quantities_of};
 ghost use Rattle.e79.specs.Doubles.{quotient_of, efficiency_of, combined, left_to_right};
 ghost use Rattle.e79.specs.Accuracy.{Accurate};
@@ -91,17 +91,26 @@ fn rounded_at_once(n: u64, d: u64) -> u64
     (20000 * n + d) / (2 * d)
 }
 
-// The same in two steps of times 100, for any denominator.
-#[tactic(auto, using(crate::proofs::Printing::step, crate::proofs::Printing::half_not_reached, crate::proofs::Printing::half_reached))]
+// Ten thousand times n / d rounded down, and what is left of 10,000 n then: in two steps of times 100, for any denominator.
+#[tactic(auto, using(crate::proofs::Printing::step, crate::proofs::Printing::steps_whole, crate::proofs::Printing::steps_rest))]
+pub fn divided(n: u64, d: u64) -> (u64, u64)
+    requires portion { Portion n d }
+    requires d_nonzero { 0 < d }
+    ensures { (result.0 ≡ 10000 * n / d) × (result.1 ≡ 10000 * n % d) }
+{
+    let first = n * 100;
+    let second = first % d * 100;
+    (first / d * 100 + second / d, second % d)
+}
+
+// Ten thousand times n / d to the nearest whole number, a half going up, for any denominator.
+#[tactic(auto, using(crate::proofs::Printing::half_not_reached, crate::proofs::Printing::half_reached))]
 fn rounded_in_steps(n: u64, d: u64) -> u64
     requires portion { Portion n d }
     requires d_nonzero { 0 < d }
     ensures { result ≡ rounded_of n d }
 {
-    let first = n * 100;
-    let second = first % d * 100;
-    let whole = first / d * 100 + second / d;
-    let rest = second % d;
+    let (whole, rest) = divided(n, d);
     if rest * 2 < d { whole } else { whole + 1 }
 }
 

@@ -1,34 +1,25 @@
--- `answering::module_quantities` meets its contract: an accepted log's account has the five quantities of a module that it knows.
+-- `answering::module_quantities` meets its contract: an accepted log's account has the five quantities of a module that it has.
 -- Assumes nothing.
-use mathlib.Core.Path.{◌≡◌, sym, ◌∙◌}
+use mathlib.Core.Path.{◌≡◌}
 use native.Mathlib.Omega.{arith}
 use Rattle.std.specs.declared.result.Result.TheVariants.{Ok, Err}
 use Rattle.records.specs.Log.{decode}
 use Rattle.e79.specs.Quantities.{Ordered}
 use Rattle.rules.specs.Quantities.{of_module}
 use Rattle.rules.specs.Verdict.{verdict}
-use Rattle.answering.proofs.Answers.{known-module, module_refused, module_stray, module_answered}
+use Rattle.answering.proofs.Answers.{module_refused, module_answered}
 use Rattle.answering.proofs.module_quantities.Goals as goal
 
-pub returns-in_err-account : goal.returns-in_err-account
-returns-in_err-account c =
+pub returns-in_err-judge_module : goal.returns-in_err-judge_module
+returns-in_err-judge_module c =
     let s = c.args.log.now in
-    let err : c.from_residual.result ≡ Err c.in_err-account.field-0.0 = grind arith in
-    rw err (module_refused s (of_module (decode s) c.args.m) Ordered c.args.m _ c.in_err-account.ensures)
-
-pub returns-in_err-known_module : goal.returns-in_err-known_module
-returns-in_err-known_module c =
-    let s = c.args.log.now in
-    let err : c.from_residual-in_err-known_module.result ≡ Err c.in_err-known_module.field-0.0 = grind arith in
-    let accepted : verdict s ≡ Ok tt = rw (← c.in_ok-account.ensures) c.in_ok-account.account.accepted in
-    let stray = rw c.in_ok-account.ensures at c.known_module.ensures in
-    rw err (module_stray s (of_module (decode s) c.args.m) Ordered c.args.m _ accepted (sym stray ∙ c.in_err-known_module.was))
+    let err : c.from_residual.result ≡ Err c.in_err-judge_module.field-0.0 = grind arith in
+    rw err (module_refused s (of_module (decode s) c.args.m) Ordered c.args.m _ c.in_err-judge_module.ensures)
 
 pub returns : goal.returns
 returns c =
     let s = c.args.log.now in
-    let accepted : verdict s ≡ Ok tt = rw (← c.in_ok-account.ensures) c.in_ok-account.account.accepted in
-    let consistent = rw c.in_ok-account.ensures at c.in_ok-account.account.consistent in
-    let stray = rw c.in_ok-account.ensures at c.known_module.ensures in
-    let known = known-module s c.args.m (sym stray ∙ c.in_ok-known_module.was) in
-    module_answered s (of_module (decode s) c.args.m) Ordered c.args.m _ accepted (sym stray ∙ c.in_ok-known_module.was) (rw c.in_ok-account.ensures at c.module_quantities.ensures) (consistent.each c.args.m known)
+    let own = c.in_ok-judge_module.ensures in
+    let accepted : verdict s ≡ Ok tt = rw (← own.0) c.in_ok-judge_module.field-0.accepted in
+    let consistent = rw own.0 at c.in_ok-judge_module.field-0.consistent in
+    module_answered s (of_module (decode s) c.args.m) Ordered c.args.m _ accepted own.1 (rw own.0 at c.module_quantities.ensures) (consistent.each c.args.m own.1)

@@ -1,6 +1,6 @@
 -- `answering::tool_quantities` meets its contract: an accepted log's account has the five quantities of the tool.
 -- Assumes nothing.
-use mathlib.Core.Path.{◌≡◌, ◌∙◌}
+use mathlib.Core.Path.{◌≡◌}
 use native.Mathlib.Omega.{arith}
 use Rattle.std.specs.declared.result.Result.TheVariants.{Ok, Err}
 use Rattle.records.specs.Log.{decode}

@@ -1,0 +1,26 @@
+-- `answering::module_losses` meets its contract: an accepted log's account has the losses of a module that it has.
+-- Assumes nothing.
+use mathlib.Core.Path.{◌≡◌, ap, ◌∙◌}
+use native.Mathlib.Omega.{arith}
+use Rattle.std.specs.declared.result.Result.TheVariants.{Ok, Err}
+use Rattle.records.specs.Log.{decode}
+use Rattle.losses.specs.Losses.{losses_of, AddsUp}
+use Rattle.losses.proofs.AddUp.{adds_up}
+use Rattle.rules.specs.Quantities.{of_module}
+use Rattle.rules.specs.Verdict.{verdict}
+use Rattle.answering.proofs.Answers.{module_refused, module_answered}
+use Rattle.answering.proofs.module_losses.Goals as goal
+
+pub returns-in_err-judge_module : goal.returns-in_err-judge_module
+returns-in_err-judge_module c =
+    let s = c.args.log.now in
+    let err : c.from_residual.result ≡ Err c.in_err-judge_module.field-0.0 = grind arith in
+    rw err (module_refused s (losses_of (of_module (decode s) c.args.m)) (AddsUp (of_module (decode s) c.args.m)) c.args.m _ c.in_err-judge_module.ensures)
+
+pub returns : goal.returns
+returns c =
+    let s = c.args.log.now in
+    let own = c.in_ok-judge_module.ensures in
+    let accepted : verdict s ≡ Ok tt = rw (← own.0) c.in_ok-judge_module.field-0.accepted in
+    let consistent = rw own.0 at c.in_ok-judge_module.field-0.consistent in
+    module_answered s (losses_of (of_module (decode s) c.args.m)) (AddsUp (of_module (decode s) c.args.m)) c.args.m _ accepted own.1 (c.losses_of_ordered.ensures.losses ∙ ap losses_of (rw own.0 at c.module_quantities.ensures)) (adds_up _ (consistent.each c.args.m own.1))
