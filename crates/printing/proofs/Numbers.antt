@@ -1,14 +1,15 @@
--- The numbers of a line: how many bytes they take. Assumes nothing.
-use mathlib.Core.Path.{◌≡◌}
+-- The numbers and the figures of a line: how many bytes they take. Assumes nothing.
+use mathlib.Core.Path.{◌≡◌, refl}
 use mathlib.Core.List.{List, [], ◌∷◌}
 use Prim.Native.Nat.{ℕ, zero, suc, ◌+◌, ◌*◌, ◌^◌, ◌≤◌, ◌<◌}
 use native.Mathlib.Omega.{arith}
 use lib.ListN.{length, get_or, length-append}
+use Rattle.losses.specs.declared.Losses.{Losses}
 use Rattle.report.specs.Text.{ascii}
-use Rattle.report.specs.Report.{decimal, joined}
+use Rattle.report.specs.Report.{decimal, places, joined}
 use Rattle.report.proofs.Decimals.{decimal-length}
 use Rattle.report.proofs.Tables.{joined_longest}
-use Rattle.printing.specs.Tables.{number, numbers}
+use Rattle.printing.specs.Tables.{number, numbers, figure, figures}
 
 pub number-length : (v : ℕ) → length (number v) ≡ length (decimal v) + 1
 unfolding number
@@ -42,3 +43,8 @@ numbers-longest d vs h =
       numbers-length vs,
       joined_longest (nth vs) (d + 2) (length vs) (λ k l. omega (arith, number-length (get_or vs k 0), decimal-length d (get_or vs k 0) (below_at (10 ^ suc d) vs h k l))),
     )
+
+-- five figures take as many bytes whatever they are
+pub figures_length : (s : Losses) → length (figures s) ≡ 36
+unfolding figures figure places
+figures_length s = refl

@@ -1,26 +1,30 @@
-// What the program prints of a log beside its report: the tables of state times and of quantities, and why a log is refused, in words. No public call
-// has a `requires`. A buffer and a place: see `filling`.
+// What the program prints of a log beside its report: the tables of state times, of quantities and of losses, and why a log is refused, in words. No public
+// call has a `requires`. A buffer and a place: see `filling`.
 #![tactic(auto)]
 
 ghost use Rattle.std.specs.Prelude.{◌≡◌, ◌+◌, ◌<◌, ◌≤◌, length};
 ghost use Rattle.records.specs.Log.{decode};
+ghost use Rattle.e79.specs.Quantities.{Ordered};
 ghost use Rattle.rules.specs.Answers.{verdict_of};
+ghost use Rattle.losses.specs.Losses.{together};
 ghost use Rattle.filling.specs.Buffer.{Put, AtFront};
 ghost use Rattle.report.specs.Report.{joined};
 ghost use Rattle.reporting.specs.Reports.{Prints};
-ghost use Rattle.printing.specs.Tables.{number, numbers, heading_of, told, line_in, tool_in, table_text};
+ghost use Rattle.printing.specs.Tables.{number, numbers, figure, figures, heading_of, told, line_in, tool_in, table_text};
 ghost use Rattle.printing.specs.Words.{words_by, in_words};
 
 use e79::Quantities;
 use judging::Account;
+use losses::Losses;
 use rules::{Refusal, StateTimes};
 
-// What a table tells of each module and of the tool: the six state times, or the five quantities, in ms. An enum and no closure: a caller names its table,
-// and by that name the table's text is defined.
+// What a table tells of each module and of the tool: the six state times, or the five quantities, in ms, or the five losses, with four places. An enum and no
+// closure: a caller names its table, and by that name the table's text is defined.
 #[derive(Clone, Copy)]
 pub enum Table {
     Times,
     Quantities,
+    Losses,
 }
 
 impl Table {
@@ -33,6 +37,7 @@ impl Table {
             Table::Times =>
                 b"module productive standby engineering scheduled unscheduled nonscheduled\n",
             Table::Quantities => b"module total uptime production actual effective\n",
+            Table::Losses => b"module availability operational rate quality oee\n",
         }
     }
 }
@@ -58,14 +63,42 @@ fn put_numbers(buf: &mut [u8], at: usize, values: &[u64]) -> usize
     filling::put_text(buf, next, b"\n")
 }
 
-// What a table tells, and the line's end. The caller owes the room. The one switch on a table, beside `heading`: six numbers or five, so no closure of one type.
+// A space and a figure of four places.
+fn put_figure(buf: &mut [u8], at: usize, p: u64) -> usize
+    requires { (p ≤ 10000) × (at + 7 ≤ length buf.old) }
+    ensures put { Put (figure p) buf.old at result buf.new }
+    ensures size { result ≡ at + 7 }
+{
+    let space = filling::put_text(buf, at, b" ");
+    report::put_places(buf, space, p)
+}
+
+// The five losses and the line's end. Each name is the place behind that loss.
+#[tactic(auto, using(crate::proofs::Numbers::figures_length))]
+fn put_figures(buf: &mut [u8], at: usize, s: Losses) -> usize
+    requires adds_up { together s ≡ 10000 }
+    requires in_bounds { at + length (figures s) ≤ length buf.old }
+    ensures { Put (figures s) buf.old at result buf.new }
+{
+    let availability = put_figure(buf, at, s.availability);
+    let operational = put_figure(buf, availability, s.operational);
+    let rate = put_figure(buf, operational, s.rate);
+    let quality = put_figure(buf, rate, s.quality);
+    let oee = put_figure(buf, quality, s.oee);
+    filling::put_text(buf, oee, b"\n")
+}
+
+// What a table tells, and the line's end. The caller owes the room, and that the quantities are ordered. The one switch on a table, beside `heading`: six numbers,
+// or five, or five figures, so no closure of one type.
 fn put_told(buf: &mut [u8], at: usize, table: Table, t: StateTimes, q: Quantities) -> usize
-    requires { at + length (numbers (told table t q)) ≤ length buf.old }
-    ensures { Put (numbers (told table t q)) buf.old at result buf.new }
+    requires ordered { Ordered q }
+    requires in_bounds { at + length (told table t q) ≤ length buf.old }
+    ensures { Put (told table t q) buf.old at result buf.new }
 {
     match table {
         Table::Times => put_numbers(buf, at, &<[u64; 6]>::from(t)),
         Table::Quantities => put_numbers(buf, at, &<[u64; 5]>::from(q)),
+        Table::Losses => put_figures(buf, at, losses::losses_of_ordered(q)),
     }
 }
 

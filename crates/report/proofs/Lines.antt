@@ -19,7 +19,7 @@ use Rattle.report.specs.Lines.{ends, Line, Lines, none, more, LastLine}
 use Rattle.report.specs.Report.{digit, decimal, short, places, shown, figure, figures, heading, tool, module_line, tool_line, joined, table_of, report_of}
 
 -- ---- line ends of texts put together
-ends-append : (s t : List ℕ) → ends (s ++ t) ≡ ends s + ends t
+pub ends-append : (s t : List ℕ) → ends (s ++ t) ≡ ends s + ends t
 unfolding ends
 ends-append [] t = sym (zero-add (ends t))
 ends-append (b ∷ s) t = rw (ends-append s t, add_assoc)
@@ -61,7 +61,7 @@ decimal_in_lem (suc k) n h =
 pub decimal-inside : (n : ℕ) → ends (decimal n) ≡ 0
 decimal-inside n = decimal_in_lem n n (le_refl n)
 
-shown-inside : (p : Option ℕ) → ends (shown p) ≡ 0
+pub shown-inside : (p : Option ℕ) → ends (shown p) ≡ 0
 unfolding ends shown places
 shown-inside (Some p) = simp digit-other
 shown-inside None = refl

@@ -2,12 +2,13 @@
 // every accepted log that a buyer looks for.
 #![tactic(auto)]
 
-// The state times, the quantities and the set of doubles, of a module and of the tool, or why a call is refused.
+// The state times, the quantities, the set of doubles and the losses, of a module and of the tool, or why a call is refused.
 pub use answering::{
-    module_figures, module_quantities, module_state_times, tool_figures, tool_quantities,
-    tool_state_times,
+    module_figures, module_losses, module_quantities, module_state_times, tool_figures,
+    tool_losses, tool_quantities, tool_state_times,
 };
 pub use e79::{Figures, Quantities};
+pub use losses::Losses;
 pub use rules::StateTimes;
 
 // What a call is refused with.
@@ -19,7 +20,7 @@ pub use reporting::{examine, print_report, report, write_report};
 // The supplemental figures of the tool.
 pub use supplemental::{Supplemental, tool_supplemental};
 
-// The tables of state times and of quantities, the lines of supplemental figures, a refusal in words, and its row on the card.
+// The tables of state times, of quantities and of losses, the lines of supplemental figures, a refusal in words, and its row on the card.
 pub use appendix::{print_supplemental, print_supplemental_words};
 pub use card::{explain, words_of};
 pub use printing::{Table, print_table, print_words};

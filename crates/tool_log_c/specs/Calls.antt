@@ -11,6 +11,7 @@ use Rattle.rules.specs.Grounds.{Verdict}
 use Rattle.std.specs.declared.result.Result.TheVariants.{Ok, Err}
 use Rattle.rules.specs.Quantities.{all_times, module_times, tool_times, of_module, of_tool, times_of}
 use Rattle.rules.specs.Verdict.{verdict, verdict_on}
+use Rattle.losses.specs.Losses.{losses_of, shares_of, AddsUp}
 use Rattle.answering.specs.Calls.{OnModule}
 use Rattle.rules.specs.Refusals.{OfLog}
 use Rattle.reporting.specs.Reports.{verdict_for, ForRoom}
@@ -65,6 +66,17 @@ abbrev pub TellsToolQuantities : List ℕ → List ℕ → ℕ → List ℕ → 
 TellsToolQuantities s before r after refusal =
     let q = of_tool (decode s) in
     TellsNumbers (verdict s) (quantities_of q) before (Ordered q) (OfLog s) r after refusal
+
+-- the five losses of module m, which make 10,000, and no other five that do lie nearer
+abbrev pub TellsModuleLosses : List ℕ → ℕ → List ℕ → ℕ → List ℕ → List ℕ → Type 0
+TellsModuleLosses s m before r after refusal =
+    let q = of_module (decode s) m in
+    TellsNumbers (verdict_on s m) (shares_of (losses_of q)) before (AddsUp q (losses_of q)) (OnModule s m) r after refusal
+
+abbrev pub TellsToolLosses : List ℕ → List ℕ → ℕ → List ℕ → List ℕ → Type 0
+TellsToolLosses s before r after refusal =
+    let q = of_tool (decode s) in
+    TellsNumbers (verdict s) (shares_of (losses_of q)) before (AddsUp q (losses_of q)) (OfLog s) r after refusal
 
 -- the tool's four supplemental figures, each the nearest whole number and at most 10,000
 abbrev pub TellsSupplemental : List ℕ → List ℕ → List ℕ → ℕ → List ℕ → List ℕ → Type 0

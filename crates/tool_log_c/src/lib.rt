@@ -3,7 +3,7 @@
 #![tactic(auto, using(crate::proofs::Handing::handing))]
 
 ghost use Rattle.reporting.specs.Reports.{Written};
-ghost use Rattle.tool_log_c.specs.Calls.{TellsVerdict, TellsModuleTimes, TellsToolTimes, TellsModuleQuantities, TellsToolQuantities, TellsModuleFigures, TellsToolFigures, TellsSupplemental, TellsAdding, TellsFinishing};
+ghost use Rattle.tool_log_c.specs.Calls.{TellsVerdict, TellsModuleTimes, TellsToolTimes, TellsModuleQuantities, TellsToolQuantities, TellsModuleFigures, TellsToolFigures, TellsModuleLosses, TellsToolLosses, TellsSupplemental, TellsAdding, TellsFinishing};
 ghost use Rattle.writing.specs.Writing.{header_entry, state_entry, standard_entry, unit_entry};
 
 // ---- the verdict and the report
@@ -25,7 +25,7 @@ pub extern "C" fn tl_report(log: &[u8], buf: &mut [u8]) -> usize
     tool_log::write_report(log, buf)
 }
 
-// ---- state times, quantities and figures
+// ---- state times, quantities, figures and losses
 
 // The six state times of module m.
 #[unsafe(no_mangle)]
@@ -102,6 +102,27 @@ pub extern "C" fn tl_tool_figures(
     ensures { TellsToolFigures log.now figures.old based.old result figures.new based.new refusal.new }
 {
     telling::tell_figures(tool_log::tool_figures(log), figures, based, refusal)
+}
+
+// The five losses of module m, in ten-thousandths that make 10,000.
+#[unsafe(no_mangle)]
+pub extern "C" fn tl_module_losses(
+    log: &[u8],
+    m: usize,
+    losses: &mut [u64; 5],
+    refusal: &mut [u64; 3],
+) -> u32
+    ensures { TellsModuleLosses log.now m losses.old result losses.new refusal.new }
+{
+    telling::tell_numbers(tool_log::module_losses(log, m), losses, refusal)
+}
+
+// The tool's.
+#[unsafe(no_mangle)]
+pub extern "C" fn tl_tool_losses(log: &[u8], losses: &mut [u64; 5], refusal: &mut [u64; 3]) -> u32
+    ensures { TellsToolLosses log.now losses.old result losses.new refusal.new }
+{
+    telling::tell_numbers(tool_log::tool_losses(log), losses, refusal)
 }
 
 // ---- supplemental figures

@@ -1,4 +1,4 @@
-// One command for a log: its report, its state times, its quantities, its supplemental figures, and what a refusal means.
+// One command for a log: its report, its state times, its quantities, its losses, its supplemental figures, and what a refusal means.
 // That a name is at most 4,096 bytes stands in four contracts: see `saying`.
 #![tactic(auto)]
 
@@ -15,6 +15,7 @@ fn help(out: &impl Print) {
 toollog report [LOG]                  the four efficiencies and OEE of each module and of the tool\n\
 toollog times [LOG]                   their six state times, in ms\n\
 toollog quantities [LOG]              their total time, uptime, production time and theoretical times, in ms\n\
+toollog losses [LOG]                  what total time went to: availability, operational, rate and quality loss, and OEE, which make 1.0000\n\
 toollog supplemental LOG BENCHMARKS   the four supplemental figures of the tool: reference, optimized, value-added, total effective units\n\
 toollog explain N                     what refusal N means, and what to look for\n\
 toollog help                          this text\n\
@@ -199,6 +200,7 @@ fn run(rt: HostRuntime, word: &[u8]) {
         b"report" => answer(rt, |log| print_report(rt, log)),
         b"times" => answer(rt, |log| print_table(rt, Table::Times, log)),
         b"quantities" => answer(rt, |log| print_table(rt, Table::Quantities, log)),
+        b"losses" => answer(rt, |log| print_table(rt, Table::Losses, log)),
         b"supplemental" => supplemental(rt),
         b"explain" => explain(rt),
         b"help" => {

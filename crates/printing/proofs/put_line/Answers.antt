@@ -11,8 +11,11 @@ put_decimal-number-requires c =
     let low : c.args.m < 64 = omega (arith, c.args.account.now.consistent.few) in
     omega (arith, line_length_lem c.args.table (decode c.args.account.now.log.bytes.now) c.args.m low)
 
-pub put_told-requires : goal.put_told-requires
-put_told-requires c =
+pub put_told-requires-clause-ordered : goal.put_told-requires-clause-ordered
+put_told-requires-clause-ordered c = rw c.module_quantities.ensures (c.args.account.now.consistent.each c.args.m c.requires.m_bound)
+
+pub put_told-requires-clause-in_bounds : goal.put_told-requires-clause-in_bounds
+put_told-requires-clause-in_bounds c =
     let low : c.args.m < 64 = omega (arith, c.args.account.now.consistent.few) in
     rw (told_same c.args.table c.module_times.ensures c.module_quantities.ensures)
     (omega (arith, c.requires.m_in_bounds, line_length_lem c.args.table (decode c.args.account.now.log.bytes.now) c.args.m low))
