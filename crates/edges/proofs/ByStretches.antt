@@ -60,6 +60,11 @@ same : (l : Log) → states_of l ≡ Ok tt → of_module l ≡ quantities_by l
 unfolding uptime time_in
 same l a = fun_ext (λ m. simp (accepted_by_stretches l.period l.modules m l.states a))
 
+-- ---- the tool's five quantities
+
+pub tool_by-stretches : (l : Log) → states_of l ≡ Ok tt → of_tool l ≡ summed (quantities_by l) l.modules
+tool_by-stretches l a = ap (λ (each : ℕ → Quantities). summed each l.modules) (same l a)
+
 -- ---- the report
 
 -- by stretches where the state records are accepted

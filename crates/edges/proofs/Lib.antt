@@ -4,3 +4,4 @@ pub mod CaseWWhole
 pub mod SequenceCases
 pub mod AppendixExample
 pub mod ModuleCases
+pub mod BarsByHand

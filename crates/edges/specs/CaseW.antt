@@ -1,11 +1,13 @@
--- Case W of document 01 whole: the 121 bytes of its log, what they say, and the 183 bytes of its report. Definitions only.
+-- Case W of document 01 whole: the 121 bytes of its log, what they say, the 183 bytes of its report, and the tool's losses. Definitions only.
 use Rattle.std.specs.Prelude.{ℕ, ◌≡◌, List, [], ◌∷◌, ◌++◌, length}
 use Rattle.records.specs.declared.UnitRecord.{UnitRecord}
 use Rattle.records.specs.Log.{Log, decode}
 use Rattle.rules.specs.declared.Ground.TheVariants.{ShortBuffer}
 use Rattle.rules.specs.declared.LogList.TheVariants.{NoList}
 use Rattle.std.specs.declared.result.Result.TheVariants.{Ok}
+use Rattle.rules.specs.Quantities.{of_tool}
 use Rattle.rules.specs.Verdict.{verdict}
+use Rattle.losses.specs.Losses.{losses_of}
 use Rattle.report.specs.Text.{ascii}
 use Rattle.reporting.specs.Reports.{report_text, verdict_for, written_part}
 use Rattle.edges.specs.Cases.{state, standard_of, log, refused}
@@ -50,7 +52,7 @@ case_w_report =
     ++ ascii "2 1.0000 0.4762 0.9375 1.0000 0.4464\n"
     ++ ascii "tool 0.9702 0.7730 0.9524 0.9569 0.6835\n"
 
--- what is claimed: the bytes say those numbers, and their report is the whole one; it fits a buffer of 183 bytes, and none of 182
+-- what is claimed: the bytes say those numbers, and their report is the whole one; it fits a buffer of 183 bytes, and none of 182; the tool's losses are R-6's
 pub record CaseW : Type 0 where
   pub records : decode case_w ≡ case_w_log
   pub accepted : verdict case_w ≡ Ok tt
@@ -58,3 +60,4 @@ pub record CaseW : Type 0 where
   pub size : length case_w_report ≡ 183
   pub in_183 : written_part case_w 183 ≡ case_w_report
   pub in_182 : verdict_for case_w 182 ≡ refused ShortBuffer NoList 0
+  pub losses : losses_of (of_tool (decode case_w)) ≡ record { availability = 298; operational = 2202; rate = 357; quality = 308; oee = 6835 }

@@ -3,3 +3,4 @@ pub mod CaseW
 pub mod Sequences
 pub mod Appendix
 pub mod Modules
+pub mod Bars
