@@ -1,8 +1,8 @@
 #!/usr/bin/env python3
 """Makes the input of the program `cases` and what it must print: the edge cases of document 01, of R-1 and of R-5, the printed figures of 002 and
-of 003's worked example, a tool with a faster chamber, and inputs that are no log, as reports and through the calls for state times, quantities and
-doubles; and R1-3 of 002, that tool and the refusals of benchmarks through the call for the supplemental figures. What each must give is written here
-from those papers: hours as 002 prints them, doubles from exact fractions. The logs are written by the library, as make.py's are; of what they must
+of 003's worked example, a tool with a faster chamber, and inputs that are no log, as reports and through the calls for state times, quantities,
+doubles and losses; and R1-3 of 002, that tool and the refusals of benchmarks through the call for the supplemental figures. What each must give is written here
+from those papers: hours as 002 prints them, doubles and losses from exact fractions. The logs are written by the library, as make.py's are; of what they must
 give nothing is taken from it."""
 
 import struct
@@ -12,9 +12,10 @@ from pathlib import Path
 from make import HOUR, WEEK, case_w, chamber, guidebook, last_bit_set, log, pack_benchmarks, r1_1, r1_2, r1_3
 
 # The kinds of a case, as crates/cases/src/main.rt has them.
-REPORT, MODULE_TIMES, TOOL_TIMES, MODULE_QUANTITIES, TOOL_QUANTITIES, MODULE_DOUBLES, TOOL_DOUBLES, WRITE, PRINT, SUPPLEMENTAL = range(10)
-OF_MODULE = MODULE_TIMES, MODULE_QUANTITIES, MODULE_DOUBLES
-OF_TOOL = TOOL_TIMES, TOOL_QUANTITIES, TOOL_DOUBLES
+REPORT, MODULE_TIMES, TOOL_TIMES, MODULE_QUANTITIES, TOOL_QUANTITIES, MODULE_DOUBLES, TOOL_DOUBLES, MODULE_LOSSES, TOOL_LOSSES = range(9)
+WRITE, PRINT, SUPPLEMENTAL = range(9, 12)
+OF_MODULE = MODULE_TIMES, MODULE_QUANTITIES, MODULE_DOUBLES, MODULE_LOSSES
+OF_TOOL = TOOL_TIMES, TOOL_QUANTITIES, TOOL_DOUBLES, TOOL_LOSSES
 CALLED = {
     MODULE_TIMES: "module times",
     TOOL_TIMES: "tool times",
@@ -22,6 +23,8 @@ CALLED = {
     TOOL_QUANTITIES: "tool quantities",
     MODULE_DOUBLES: "module doubles",
     TOOL_DOUBLES: "tool doubles",
+    MODULE_LOSSES: "module losses",
+    TOOL_LOSSES: "tool losses",
 }
 NO_BASE = 2**64 - 1
 
@@ -216,7 +219,7 @@ PRINTS = [
 ]
 
 
-# ---- the calls for state times, quantities and doubles
+# ---- the calls for state times, quantities, doubles and losses
 
 
 def answered(*numbers):
@@ -263,10 +266,21 @@ def doubles(total, uptime, production, actual, effective):
     return [bits(x) for x in (*four, nearest(Fraction(effective, total)), product)]
 
 
-def three_calls(name, data, module, times, quantities):
-    """The state times, the quantities and the doubles of a module, or of the tool where the module is None."""
+def losses(total, uptime, production, actual, effective):
+    """R-6: each share of total time, in ten-thousandths, rounded down; the missing ones one each to the largest remainders, the earlier part first."""
+    parts = total - uptime, uptime - production, production - actual, actual - effective, effective
+    exact = [Fraction(10_000 * part, total) for part in parts]
+    shares = [int(share) for share in exact]
+    for _ in range(10_000 - sum(shares)):
+        i = max(range(5), key=lambda i: exact[i] - shares[i])
+        shares[i] += 1
+    return shares
+
+
+def four_calls(name, data, module, times, quantities):
+    """The state times, the quantities, the doubles and the losses of a module, or of the tool where the module is None."""
     kinds = OF_TOOL if module is None else OF_MODULE
-    answers = [times, quantities, doubles(*quantities)]
+    answers = [times, quantities, doubles(*quantities), losses(*quantities)]
     return [(kind, f"{name}, {CALLED[kind]}", data, module or 0, answered(*numbers)) for kind, numbers in zip(kinds, answers)]
 
 
@@ -311,6 +325,8 @@ W_QUANTITIES = [
     (WEEK, 568_800_000, 532_800_000, 290 * 1_800_000, 278 * 1_800_000),
     (WEEK, WEEK, 288_000_000, 150 * 1_800_000, 150 * 1_800_000),
 ]
+# R-6 prints the tool's.
+assert losses(*sums(*W_QUANTITIES)) == [298, 2202, 357, 308, 6835]
 
 # 003, section 2.5: the hours of the states, 28 of them scheduled down. 573 wafers at 2.5 minutes and 1,101 at 3.3 are the 5,065.8 minutes of
 # document 01; 524 and 1,030 of them are good.
@@ -326,28 +342,33 @@ LONGEST_PERIOD = 31_622_400_000
 GREATEST = 64 * LONGEST_PERIOD
 
 NO_UPTIME = log(10, 1, [(0, 22, 0)], [], [])
+# 73 ms: 45 productive, 14 standby, 14 scheduled down; 30 units of 1 ms, 15 of them good
+FOUR_MISSING = log(73, 1, [(0, 0, 0), (0, 6, 45), (0, 14, 59)], [(0, 0, 0, 1)], [(0, 0, 44, 30, 15)])
 
 # kind, name, log, module, expected numbers
 CALLS = [
-    *three_calls("R1-1", r1_1(), 0, R1_1_TIMES, R1_1_QUANTITIES),
-    *three_calls("R1-1", r1_1(), None, R1_1_TIMES, R1_1_QUANTITIES),
-    *three_calls("R1-2 A", r1_2(), 0, R1_2_TIMES[0], R1_2_QUANTITIES[0]),
-    *three_calls("R1-2 B", r1_2(), 1, R1_2_TIMES[1], R1_2_QUANTITIES[1]),
-    *three_calls("R1-2 C", r1_2(), 2, R1_2_TIMES[2], R1_2_QUANTITIES[2]),
-    *three_calls("R1-2", r1_2(), None, sums(*R1_2_TIMES), R1_2_TOOL),
-    *three_calls("003", guidebook(), 0, GUIDEBOOK_TIMES, GUIDEBOOK_QUANTITIES),
-    *three_calls("case W 0", case_w(), 0, W_TIMES[0], W_QUANTITIES[0]),
-    *three_calls("case W 1", case_w(), 1, W_TIMES[1], W_QUANTITIES[1]),
-    *three_calls("case W 2", case_w(), 2, W_TIMES[2], W_QUANTITIES[2]),
-    *three_calls("case W", case_w(), None, sums(*W_TIMES), sums(*W_QUANTITIES)),
-    *three_calls("new chamber 2", chamber(), 2, CHAMBER_TIMES, CHAMBER_QUANTITIES[2]),
-    *three_calls("new chamber", chamber(), None, sums(*[CHAMBER_TIMES] * 3), sums(*CHAMBER_QUANTITIES)),
+    *four_calls("R1-1", r1_1(), 0, R1_1_TIMES, R1_1_QUANTITIES),
+    *four_calls("R1-1", r1_1(), None, R1_1_TIMES, R1_1_QUANTITIES),
+    *four_calls("R1-2 A", r1_2(), 0, R1_2_TIMES[0], R1_2_QUANTITIES[0]),
+    *four_calls("R1-2 B", r1_2(), 1, R1_2_TIMES[1], R1_2_QUANTITIES[1]),
+    *four_calls("R1-2 C", r1_2(), 2, R1_2_TIMES[2], R1_2_QUANTITIES[2]),
+    *four_calls("R1-2", r1_2(), None, sums(*R1_2_TIMES), R1_2_TOOL),
+    *four_calls("003", guidebook(), 0, GUIDEBOOK_TIMES, GUIDEBOOK_QUANTITIES),
+    *four_calls("case W 0", case_w(), 0, W_TIMES[0], W_QUANTITIES[0]),
+    *four_calls("case W 1", case_w(), 1, W_TIMES[1], W_QUANTITIES[1]),
+    *four_calls("case W 2", case_w(), 2, W_TIMES[2], W_QUANTITIES[2]),
+    *four_calls("case W", case_w(), None, sums(*W_TIMES), sums(*W_QUANTITIES)),
+    *four_calls("new chamber 2", chamber(), 2, CHAMBER_TIMES, CHAMBER_QUANTITIES[2]),
+    *four_calls("new chamber", chamber(), None, sums(*[CHAMBER_TIMES] * 3), sums(*CHAMBER_QUANTITIES)),
     # no base: no uptime, and no unit made
-    *three_calls("11 no uptime", NO_UPTIME, 0, (0, 0, 0, 0, 0, 10), (10, 0, 0, 0, 0)),
-    *three_calls("11 no uptime", NO_UPTIME, None, (0, 0, 0, 0, 0, 10), (10, 0, 0, 0, 0)),
-    *three_calls("no units", productive(10), 0, (10, 0, 0, 0, 0, 0), (10, 10, 10, 0, 0)),
+    *four_calls("11 no uptime", NO_UPTIME, 0, (0, 0, 0, 0, 0, 10), (10, 0, 0, 0, 0)),
+    *four_calls("11 no uptime", NO_UPTIME, None, (0, 0, 0, 0, 0, 10), (10, 0, 0, 0, 0)),
+    *four_calls("no units", productive(10), 0, (10, 0, 0, 0, 0, 0), (10, 10, 10, 0, 0)),
+    # one missing ten-thousandth, for which three tie; four missing, and one that ties goes without
+    *four_calls("thirds", log(3, 1, [(0, 0, 0), (0, 6, 1), (0, 14, 2)], [], []), None, (1, 1, 0, 1, 0, 0), (3, 2, 1, 0, 0)),
+    *four_calls("four missing", FOUR_MISSING, 0, (45, 14, 0, 14, 0, 0), (73, 59, 45, 30, 15)),
     # the greatest sums
-    *three_calls("64 modules of 366 days", productive(LONGEST_PERIOD, 64), None, (GREATEST, 0, 0, 0, 0, 0), (GREATEST, GREATEST, GREATEST, 0, 0)),
+    *four_calls("64 modules of 366 days", productive(LONGEST_PERIOD, 64), None, (GREATEST, 0, 0, 0, 0, 0), (GREATEST, GREATEST, GREATEST, 0, 0)),
     # a refused log answers its refusal, also where the module is a stray one
     *turned_back_by(CALLED, "no bytes", b"", 0, 1),
     *turned_back_by(CALLED, "code 24", changed(24, 5), 0, 8, 1, 1),
@@ -423,6 +444,7 @@ WRONG_TEXTS = [
 WRONG_CALLS = [
     (MODULE_TIMES, "a time wrong on purpose", case_w(), 0, answered(*W_TIMES[0][:5], 1)),
     (TOOL_DOUBLES, "a bit wrong on purpose", case_w(), 0, answered(*doubles(*R1_2_TOOL)[:5], doubles(*R1_2_TOOL)[5] ^ 1)),
+    (TOOL_LOSSES, "a share wrong on purpose", case_w(), 0, answered(299, 2202, 357, 308, 6834)),
     by_benchmarks("a ten-thousandth wrong on purpose", r1_3(), R1_3, 6706, 4589, 1596, 7733),
 ]
 

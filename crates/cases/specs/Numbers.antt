@@ -13,6 +13,7 @@ use Rattle.rules.specs.Quantities.{module_times, tool_times, of_module, of_tool,
 use Rattle.rules.specs.Refusals.{three_of}
 use Rattle.rules.specs.Verdict.{verdict, verdict_on}
 use Rattle.rules.specs.Answers.{answer_of}
+use Rattle.losses.specs.Losses.{losses_of, shares_of}
 use Rattle.benchmarks.specs.Benchmarks.{benchmark_at, verdict_with}
 use Rattle.supplemental.specs.Supplemental.{supplemental_of, supplementals_of}
 
@@ -41,7 +42,8 @@ patterns_of f =
     ∷ to_bits binary64 f.product
     ∷ []
 
--- what a call of a kind answers for a log and a module: the state times 1 of the module, 2 of the tool; the quantities 3 and 4; the doubles 5 and 6
+-- what a call of a kind answers for a log and a module: the state times 1 of the module, 2 of the tool; the quantities 3 and 4; the doubles 5 and 6; the
+-- losses 7 and 8
 unfoldable pub answers_of : ℕ → List ℕ → ℕ → List ℕ
 answers_of kind s m =
     cond (kind == 1) (seven_of times_of (answer_of (verdict_on s m) (module_times (decode s) m)))
@@ -49,7 +51,9 @@ answers_of kind s m =
     (cond (kind == 3) (seven_of quantities_of (answer_of (verdict_on s m) (of_module (decode s) m)))
     (cond (kind == 4) (seven_of quantities_of (answer_of (verdict s) (of_tool (decode s))))
     (cond (kind == 5) (seven_of patterns_of (answer_of (verdict_on s m) (figures_of (of_module (decode s) m))))
-    (seven_of patterns_of (answer_of (verdict s) (figures_of (of_tool (decode s)))))))))
+    (cond (kind == 6) (seven_of patterns_of (answer_of (verdict s) (figures_of (of_tool (decode s)))))
+    (cond (kind == 7) (seven_of shares_of (answer_of (verdict_on s m) (losses_of (of_module (decode s) m))))
+    (seven_of shares_of (answer_of (verdict s) (losses_of (of_tool (decode s)))))))))))
 
 -- what the call for the supplemental figures answers for a log and its benchmarks
 abbrev pub measured_of : List ℕ → List ℕ → List ℕ

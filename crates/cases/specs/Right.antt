@@ -15,7 +15,7 @@ measured_in s size = let n = min size (length s) in measured_of (take n s) (drop
 -- by the kind of the case, the log, what is asked for beside it, and what is expected
 pub data Right (kind : ℕ) (s : List ℕ) (asked : ℕ) (expected : List ℕ) : Type 0 where
   by_report : kind ≡ 0 → expected ≡ text_for s (lent asked) → Right kind s asked expected
-  by_numbers : 1 ≤ kind → kind ≤ 6 → Numbers expected (answers_of kind s asked) → Right kind s asked expected
-  by_write : kind ≡ 7 → expected ≡ written_part s (lent asked) → Right kind s asked expected
-  by_print : kind ≡ 8 → expected ≡ printed report_text s → Right kind s asked expected
-  by_supplemental : kind ≡ 9 → Numbers expected (measured_in s asked) → Right kind s asked expected
+  by_numbers : 1 ≤ kind → kind ≤ 8 → Numbers expected (answers_of kind s asked) → Right kind s asked expected
+  by_write : kind ≡ 9 → expected ≡ written_part s (lent asked) → Right kind s asked expected
+  by_print : kind ≡ 10 → expected ≡ printed report_text s → Right kind s asked expected
+  by_supplemental : kind ≡ 11 → Numbers expected (measured_in s asked) → Right kind s asked expected

@@ -3,13 +3,13 @@
 //
 // Input: the number of cases in 2 bytes; then for each
 // - its kind in 1 byte, the call that is run. 0: `report`, with the verdict of `examine`. The state times, 1 of a module, 2 of the tool; the
-//   quantities, 3 of a module, 4 of the tool; the set of doubles, 5 of a module, 6 of the tool. 7: `write_report`. 8: `print_report`. 9: the
-//   supplemental figures;
+//   quantities, 3 of a module, 4 of the tool; the set of doubles, 5 of a module, 6 of the tool; the losses, 7 of a module, 8 of the tool.
+//   9: `write_report`. 10: `print_report`. 11: the supplemental figures;
 // - the length of its name in 1 byte;
-// - in 4 bytes each what the call is asked for beside the log (0, 7: how many bytes of a buffer are lent; 1, 3, 5: the module; 9: how many bytes are the
-//   log's, behind which its benchmarks stand), the length of the log and that of what is expected;
-// - the name, the log, and what is expected. Of 0, 7 and 8 that is a text: the report, or the line of the refusal, or nothing where `write_report`
-//   refuses. Of 1 to 6 and of 9 it is seven numbers of 8 bytes, as numbers.rt has them.
+// - in 4 bytes each what the call is asked for beside the log (0, 9: how many bytes of a buffer are lent; 1, 3, 5, 7: the module; 11: how many bytes are
+//   the log's, behind which its benchmarks stand), the length of the log and that of what is expected;
+// - the name, the log, and what is expected. Of 0, 9 and 10 that is a text: the report, or the line of the refusal, or nothing where `write_report`
+//   refuses. Of 1 to 8 and of 11 it is seven numbers of 8 bytes, as numbers.rt has them.
 // The kind stays the input's number, in two switches: an enum would be made of it by a third.
 #![tactic(auto)]
 
@@ -52,10 +52,10 @@ fn as_expected(kind: usize, log: &[u8], asked: usize, expected: &[u8]) -> bool
     let room = asked.min(4096);
     match kind {
         0 => texts::reports(log, &mut space[..room + 32], room, expected),
-        1..=6 => numbers::as_expected(kind, log, asked, expected),
-        7 => texts::writes(log, &mut space[..room + 32], room, expected),
-        8 => texts::prints(log, expected),
-        9 => measures(log, asked, expected),
+        1..=8 => numbers::as_expected(kind, log, asked, expected),
+        9 => texts::writes(log, &mut space[..room + 32], room, expected),
+        10 => texts::prints(log, expected),
+        11 => measures(log, asked, expected),
         _ => false,
     }
 }

@@ -1,6 +1,6 @@
 // What the calls answer as seven numbers, and their comparison with those that are expected. An answer is 0 and six numbers: the state times in ms,
-// the five quantities in ms and 0, the bit patterns of the doubles, 2^64 - 1 where there is no base, or the four supplemental figures and twice 0. A
-// refusal is its number, its list, its place and four times 0.
+// the five quantities in ms and 0, the bit patterns of the doubles, 2^64 - 1 where there is no base, the five losses and 0, or the four supplemental
+// figures and twice 0. A refusal is its number, its list, its place and four times 0.
 ghost use Rattle.std.specs.Prelude.{◌≡◌, true, ℕ, ◌↔◌, ◌≤◌, ◌∷◌, List, to_bits, MatchResult};
 ghost use Rattle.std.specs.Float.{binary64};
 ghost use Rattle.rules.specs.Refusals.{three_of};
@@ -65,7 +65,7 @@ fn same(numbers: &[u64; 7], bytes: &[u8]) -> bool
     bytes.len() == 56 && (0..7).all(|i| bits::read_word(bytes, 64 * i) == numbers[i])
 }
 
-// What a call of a kind, 1 to 6, answers.
+// What a call of a kind, 1 to 8, answers.
 #[tactic(auto, unfolding(crate::specs::Numbers::answers_of))]
 fn answered(kind: usize, log: &[u8], m: usize) -> [u64; 7]
     ensures { result ≡ answers_of kind log.now m }
@@ -76,7 +76,9 @@ fn answered(kind: usize, log: &[u8], m: usize) -> [u64; 7]
         3 => of_answer(tool_log::module_quantities(log, m)),
         4 => of_answer(tool_log::tool_quantities(log)),
         5 => of_answer(tool_log::module_figures(log, m).map(patterns_of)),
-        _ => of_answer(tool_log::tool_figures(log).map(patterns_of)),
+        6 => of_answer(tool_log::tool_figures(log).map(patterns_of)),
+        7 => of_answer(tool_log::module_losses(log, m)),
+        _ => of_answer(tool_log::tool_losses(log)),
     }
 }
 
