@@ -1,6 +1,6 @@
 /*
- * tool_log.h: the packed log of a semiconductor tool, answered: state times, the quantities, efficiencies and supplemental figures of SEMI E79, and
- * the shift report; and written, record by record.
+ * tool_log.h: the packed log of a semiconductor tool, answered: state times, the quantities, efficiencies, losses and supplemental figures of SEMI
+ * E79, and the shift report; and written, record by record.
  *
  * Link libtool_log_c.a (x86-64 Linux). It needs nothing but C's memcpy and memset.
  *
@@ -71,6 +71,9 @@ enum { TL_TOTAL, TL_UPTIME, TL_PRODUCTION, TL_ACTUAL, TL_EFFECTIVE, TL_QUANTITIE
  *   product        availability by operational, by rate, by quality, each rounded once; 0 where one of them has no base */
 enum { TL_AVAILABILITY, TL_OPERATIONAL, TL_RATE, TL_QUALITY, TL_OEE, TL_PRODUCT, TL_FIGURES };
 enum { TL_BASED = 4 };
+
+/* Entries of `losses`: TL_AVAILABILITY to TL_OEE, the four losses and the OEE, in ten-thousandths of total time. */
+enum { TL_LOSSES = 5 };
 
 /* Entries of the `figures` of tl_supplemental, in ten-thousandths. */
 enum { TL_REFERENCE, TL_OPTIMIZED, TL_VALUE_ADDED, TL_TOTAL_EFFECTIVE_UNITS, TL_SUPPLEMENTAL };
@@ -178,6 +181,23 @@ uint32_t tl_module_figures(const uint8_t *log, size_t log_len, size_t module, do
 
 /* The figures of the tool, from its summed quantities and not from its modules' figures. Refused where the log is. */
 uint32_t tl_tool_figures(const uint8_t *log, size_t log_len, double figures[6], uint8_t based[4], uint64_t refusal[3]);
+
+/*
+ * The losses of a module and its OEE, in ten-thousandths of its total time: the five parts of a bar, which make 10,000.
+ *   availability   total - uptime
+ *   operational    uptime - production
+ *   rate           production - actual
+ *   quality        actual - effective
+ *   OEE            effective
+ * Each starts from 10,000 times this, over total, rounded down. The ten-thousandths that are then missing go one each to the largest remainders, the
+ * earlier part winning ties. No other five whole numbers that make 10,000 lie nearer to the exact shares in summed distance.
+ * The OEE may differ by 1 from the report's, which is its quotient rounded to the nearest: five rounded so can make more or less than 10,000.
+ * Refused where the log is.
+ */
+uint32_t tl_module_losses(const uint8_t *log, size_t log_len, size_t module, uint64_t losses[5], uint64_t refusal[3]);
+
+/* The losses of the tool and its OEE, from its summed quantities and not from its modules' losses. Refused where the log is. */
+uint32_t tl_tool_losses(const uint8_t *log, size_t log_len, uint64_t losses[5], uint64_t refusal[3]);
 
 /*
  * The supplemental figures of the tool, in ten-thousandths of its total time, rounded to the nearest, an exact half going up. None is over 10,000.

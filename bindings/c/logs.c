@@ -70,6 +70,39 @@ struct written write_two_modules(const uint64_t standards[][4], size_t count)
     return all_added(log, added, at[0]);
 }
 
+/* The state of a module at a time: productive, then standby, then under repair. */
+static uint64_t code_at(const uint64_t parts[5], uint64_t time)
+{
+    if (time < parts[2] + parts[3] + parts[4])
+        return 0;
+    return time < parts[1] + parts[2] + parts[3] + parts[4] ? 7 : 18;
+}
+
+struct written write_parts(const uint64_t parts[][5], size_t modules)
+{
+    struct written log = {{0}, 0};
+    uint64_t period = 0, at[1] = {10}, states = 0, refusal[3];
+    uint32_t added = 1;
+
+    for (int i = 0; i < 5; i++)
+        period += parts[0][i];
+    for (uint64_t t = 0; t < period; t++) {
+        for (size_t m = 0; m < modules; m++) {
+            if (t == 0 || code_at(parts[m], t) != code_at(parts[m], t - 1)) {
+                added &= tl_put_state(log.bytes, sizeof log.bytes, at[0], m, code_at(parts[m], t), t, at, refusal);
+                states++;
+            }
+        }
+    }
+    for (size_t m = 0; m < modules; m++)
+        added &= tl_put_standard(log.bytes, sizeof log.bytes, at[0], m, 0, 0, 1, at, refusal);
+    for (size_t m = 0; m < modules; m++)
+        added &= tl_put_unit(log.bytes, sizeof log.bytes, at[0], m, 0, 0, parts[m][3] + parts[m][4], parts[m][4], at, refusal);
+    log.length = at[0];
+    added &= tl_put_header(log.bytes, sizeof log.bytes, 0, period, modules, states, modules, modules, at, refusal);
+    return all_added(log, added, log.length);
+}
+
 struct written write_idle(void)
 {
     struct written log = {{0}, 0};

@@ -20,6 +20,10 @@ struct written write_r1_3(void);
  * of recipe 4, one of them effective. */
 struct written write_two_modules(const uint64_t standards[][4], size_t count);
 
+/* One or two modules whose period splits, in ms, into the numerators of their losses and OEE: availability, operational, rate, quality, OEE. Each
+ * module's five make the period. */
+struct written write_parts(const uint64_t parts[][5], size_t modules);
+
 /* One module that was not scheduled all day: no uptime, so operational, rate and quality have no base. */
 struct written write_idle(void);
 

@@ -1,6 +1,6 @@
 /* Tests every function of tool_log.h: the reading ones on case W, a log with no uptime, standards of two modules, and bytes that are refused; the
- * supplemental figures on R1-3 and on benchmarks with every fault; the writing ones on every width, on every position that matters, and on bytes
- * worked out by hand. */
+ * losses on shares with equal remainders too; the supplemental figures on R1-3 and on benchmarks with every fault; the writing ones on every width,
+ * on every position that matters, and on bytes worked out by hand. */
 #include <inttypes.h>
 #include <math.h>
 #include <stdio.h>
@@ -103,7 +103,7 @@ static uint32_t supplemental(const uint8_t *log, size_t log_len, const uint8_t *
 static void refused(const uint8_t *bytes, size_t length, uint64_t number, uint64_t list, uint64_t place)
 {
     uint8_t *log = copied(bytes, length), based[4], *buf = malloc(TL_LONGEST_REPORT);
-    uint64_t times[6], quantities[5], four[4], why[3];
+    uint64_t times[6], quantities[5], losses[5], four[4], why[3];
     double figures[6];
 
     if (!buf)
@@ -111,6 +111,7 @@ static void refused(const uint8_t *bytes, size_t length, uint64_t number, uint64
     memset(buf, 0xa5, TL_LONGEST_REPORT);
     memset(times, 0xa5, sizeof times);
     memset(quantities, 0xa5, sizeof quantities);
+    memset(losses, 0xa5, sizeof losses);
     memset(figures, 0xa5, sizeof figures);
     memset(based, 0xa5, sizeof based);
 
@@ -123,15 +124,17 @@ static void refused(const uint8_t *bytes, size_t length, uint64_t number, uint64
         CHECK(tl_module_state_times(log, length, m, times, why) == 0 && is(why, number, list, place));
         CHECK(tl_module_quantities(log, length, m, quantities, why) == 0 && is(why, number, list, place));
         CHECK(tl_module_figures(log, length, m, figures, based, why) == 0 && is(why, number, list, place));
+        CHECK(tl_module_losses(log, length, m, losses, why) == 0 && is(why, number, list, place));
     }
     CHECK(tl_tool_state_times(log, length, times, why) == 0 && is(why, number, list, place));
     CHECK(tl_tool_quantities(log, length, quantities, why) == 0 && is(why, number, list, place));
     CHECK(tl_tool_figures(log, length, figures, based, why) == 0 && is(why, number, list, place));
+    CHECK(tl_tool_losses(log, length, losses, why) == 0 && is(why, number, list, place));
     for (size_t n = 0; n < 15; n += 7)
         CHECK(supplemental(log, length, buf, n, four, why) == 0 && is(why, number, list, place));
 
     CHECK(all(buf, TL_LONGEST_REPORT, 0xa5));
-    CHECK(all(times, sizeof times, 0xa5) && all(quantities, sizeof quantities, 0xa5));
+    CHECK(all(times, sizeof times, 0xa5) && all(quantities, sizeof quantities, 0xa5) && all(losses, sizeof losses, 0xa5));
     CHECK(all(figures, sizeof figures, 0xa5) && all(based, sizeof based, 0xa5));
     free(buf);
     free(log);
@@ -141,7 +144,7 @@ static void case_w(void)
 {
     size_t length = sizeof week;
     uint8_t *log = copied(week, length), based[4], *buf;
-    uint64_t times[6], quantities[5], why[3] = {9, 9, 9};
+    uint64_t times[6], quantities[5], losses[5], why[3] = {9, 9, 9};
     double figures[6];
 
     /* the report, in a buffer that it fills, in a longer one, and in one that is a byte short */
@@ -183,12 +186,14 @@ static void case_w(void)
     for (int i = 0; i < 3; i++) {
         memset(times, 0xa5, sizeof times);
         memset(quantities, 0xa5, sizeof quantities);
+        memset(losses, 0xa5, sizeof losses);
         memset(figures, 0xa5, sizeof figures);
         memset(based, 0xa5, sizeof based);
         CHECK(tl_module_state_times(log, length, strays[i], times, why) == 0 && is(why, TL_STRAY_MODULE, 0, strays[i]));
         CHECK(tl_module_quantities(log, length, strays[i], quantities, why) == 0 && is(why, TL_STRAY_MODULE, 0, strays[i]));
         CHECK(tl_module_figures(log, length, strays[i], figures, based, why) == 0 && is(why, TL_STRAY_MODULE, 0, strays[i]));
-        CHECK(all(times, sizeof times, 0xa5) && all(quantities, sizeof quantities, 0xa5));
+        CHECK(tl_module_losses(log, length, strays[i], losses, why) == 0 && is(why, TL_STRAY_MODULE, 0, strays[i]));
+        CHECK(all(times, sizeof times, 0xa5) && all(quantities, sizeof quantities, 0xa5) && all(losses, sizeof losses, 0xa5));
         CHECK(all(figures, sizeof figures, 0xa5) && all(based, sizeof based, 0xa5));
     }
     free(log);
@@ -324,6 +329,86 @@ static void random_bytes(void)
             refused(bytes, length, number, 0, 0);
         else
             CHECK(tl_examine(bytes, length, 0, why) == 0 && why[TL_NUMBER] >= TL_SPARE && why[TL_NUMBER] <= TL_UNSORTED);
+    }
+}
+
+/* ---- the losses */
+
+/* Stands for the tool, where a module is named: no log has it. */
+enum { TOOL = TL_MOST_MODULES };
+
+/* The losses and OEE of a module or of the tool, on a log of just its length. Nothing beside the five is written. */
+static void losses_are(const struct written *log, size_t module, const uint64_t due[5])
+{
+    uint8_t *lent_log = copied(log->bytes, log->length);
+    uint64_t lent[7], why[3] = {9, 9, 9};
+    uint32_t answer;
+
+    memset(lent, 0xa5, sizeof lent);
+    if (module == TOOL)
+        answer = tl_tool_losses(lent_log, log->length, lent + 1, why);
+    else
+        answer = tl_module_losses(lent_log, log->length, module, lent + 1, why);
+    CHECK(answer == 1 && is(why, 0, 0, 0));
+    CHECK(all(lent, sizeof *lent, 0xa5) && all(lent + 6, sizeof *lent, 0xa5));
+    CHECK(lent[1 + TL_AVAILABILITY] == due[0] && lent[1 + TL_OPERATIONAL] == due[1] && lent[1 + TL_RATE] == due[2]);
+    CHECK(lent[1 + TL_QUALITY] == due[3] && lent[1 + TL_OEE] == due[4]);
+    free(lent_log);
+}
+
+/* Case W: what SEMI E79 prints in R1-2. In ten-thousandths the exact shares are
+ *   0      297.62   773.81   595.24   565.48  7767.86   three missing
+ *   1      595.24   595.24   178.57   357.14  8273.81   two
+ *   2        0     5238.10   297.62     0     4464.29   one
+ *   tool   297.62  2202.38   357.14   307.54  6835.32   two */
+static void losses_of_case_w(void)
+{
+    const struct written log = write_case_w(3600000);
+    const uint64_t due[4][5] = {{298, 774, 595, 565, 7768}, {595, 595, 179, 357, 8274}, {0, 5238, 298, 0, 4464}, {298, 2202, 357, 308, 6835}};
+    for (size_t m = 0; m < 3; m++)
+        losses_are(&log, m, due[m]);
+    losses_are(&log, TOOL, due[3]);
+}
+
+/* Shares that are small fractions, so that remainders are equal: thirds, sevenths, ninths and others, worked out by hand. */
+static void losses_of_fractions(void)
+{
+    static const struct {
+        uint64_t parts[5], due[5];
+    } rows[] = {
+        {{1, 1, 1, 0, 0}, {3334, 3333, 3333, 0, 0}},
+        {{0, 0, 1, 1, 1}, {0, 0, 3334, 3333, 3333}},
+        /* three missing: the OEE has 5/7, the others 4/7 */
+        {{1, 1, 1, 1, 3}, {1429, 1429, 1428, 1428, 4286}},
+        /* the OEE's 4/9 are the largest remainder; the report has 0.4444 */
+        {{1, 1, 1, 2, 4}, {1111, 1111, 1111, 2222, 4445}},
+        /* three missing, and four remainders of 2/3; the report has 0.1667 */
+        {{1, 1, 1, 2, 1}, {1667, 1667, 1667, 3333, 1666}},
+        /* two missing, and three remainders of 2/3, of which the nearest doubles make the OEE's the largest */
+        {{0, 0, 1, 1, 4}, {0, 0, 1667, 1667, 6666}},
+        /* exact halves, two missing; then four missing, and five remainders of 4/5 */
+        {{1, 1, 1, 1, 19996}, {1, 1, 0, 0, 9998}},
+        {{1, 1, 1, 1, 12496}, {1, 1, 1, 1, 9996}},
+        /* nothing missing */
+        {{1, 2, 0, 1, 1}, {2000, 4000, 0, 2000, 2000}},
+        {{7, 0, 0, 0, 0}, {10000, 0, 0, 0, 0}},
+        {{0, 7, 0, 0, 0}, {0, 10000, 0, 0, 0}},
+        {{0, 0, 7, 0, 0}, {0, 0, 10000, 0, 0}},
+        {{0, 0, 0, 7, 0}, {0, 0, 0, 10000, 0}},
+        {{0, 0, 0, 0, 7}, {0, 0, 0, 0, 10000}},
+    };
+    /* the tool's are 1, 2, 3, 1 and 7 of 14 */
+    const uint64_t of_two[2][5] = {{1, 1, 1, 1, 3}, {0, 1, 2, 0, 4}};
+    const uint64_t due[3][5] = {{1429, 1429, 1428, 1428, 4286}, {0, 1429, 2857, 0, 5714}, {714, 1429, 2143, 714, 5000}};
+    struct written log = write_parts(of_two, 2);
+
+    losses_are(&log, 0, due[0]);
+    losses_are(&log, 1, due[1]);
+    losses_are(&log, TOOL, due[2]);
+    for (size_t i = 0; i < sizeof rows / sizeof *rows; i++) {
+        log = write_parts(&rows[i].parts, 1);
+        losses_are(&log, 0, rows[i].due);
+        losses_are(&log, TOOL, rows[i].due);
     }
 }
 
@@ -717,6 +802,8 @@ int main(void)
     no_uptime();
     own_times();
     standards_of_modules();
+    losses_of_case_w();
+    losses_of_fractions();
     benchmarks_of_r1_3();
     first_fault();
     of_all_modules();

@@ -17,6 +17,8 @@ extern "C" {
         refusal: *mut [u64; 3],
     ) -> u32;
     pub fn tl_tool_figures(log: *const u8, log_len: usize, figures: *mut [f64; 6], based: *mut [u8; 4], refusal: *mut [u64; 3]) -> u32;
+    pub fn tl_module_losses(log: *const u8, log_len: usize, module: usize, losses: *mut [u64; 5], refusal: *mut [u64; 3]) -> u32;
+    pub fn tl_tool_losses(log: *const u8, log_len: usize, losses: *mut [u64; 5], refusal: *mut [u64; 3]) -> u32;
     pub fn tl_supplemental(
         log: *const u8,
         log_len: usize,
