@@ -1,5 +1,5 @@
-//! The packed log of a semiconductor tool, answered: state times, the quantities, efficiencies and supplemental figures of SEMI E79, and the shift
-//! report; and written.
+//! The packed log of a semiconductor tool, answered: state times, the quantities, efficiencies, losses and supplemental figures of SEMI E79, and the
+//! shift report; and written.
 //!
 //! Every function takes any bytes as a log, or as benchmarks, and answers or refuses. Times are whole milliseconds. A module is counted from 0. A [`Writer`] makes a
 //! log record by record.
@@ -158,6 +158,16 @@ pub struct Figures {
     pub product: f64,
 }
 
+/// The four losses and the OEE, in ten-thousandths of total time. They make 10,000, so this OEE may differ by 1 from the report's.
+#[derive(Clone, Copy, Debug, PartialEq, Eq)]
+pub struct Losses {
+    pub availability: u64,
+    pub operational: u64,
+    pub rate: u64,
+    pub quality: u64,
+    pub oee: u64,
+}
+
 /// The supplemental figures of the tool, in ten-thousandths of its total time.
 #[derive(Clone, Copy, Debug, PartialEq, Eq)]
 pub struct Supplemental {
@@ -260,6 +270,22 @@ pub fn tool_figures(log: &[u8]) -> Result<Figures, Refusal> {
     let (mut doubles, mut based, mut refusal) = ([0.0; 6], [0; 4], [0; 3]);
     let flag = unsafe { c::tl_tool_figures(log.as_ptr(), log.len(), &mut doubles, &mut based, &mut refusal) };
     figures(flag, doubles, based, refusal)
+}
+
+fn losses(flag: u32, [availability, operational, rate, quality, oee]: [u64; 5], refusal: [u64; 3]) -> Result<Losses, Refusal> {
+    answered(flag, refusal, Losses { availability, operational, rate, quality, oee })
+}
+
+pub fn module_losses(log: &[u8], module: usize) -> Result<Losses, Refusal> {
+    let (mut parts, mut refusal) = ([0; 5], [0; 3]);
+    let flag = unsafe { c::tl_module_losses(log.as_ptr(), log.len(), module, &mut parts, &mut refusal) };
+    losses(flag, parts, refusal)
+}
+
+pub fn tool_losses(log: &[u8]) -> Result<Losses, Refusal> {
+    let (mut parts, mut refusal) = ([0; 5], [0; 3]);
+    let flag = unsafe { c::tl_tool_losses(log.as_ptr(), log.len(), &mut parts, &mut refusal) };
+    losses(flag, parts, refusal)
 }
 
 /// The supplemental figures of the tool. Benchmarks are 14 bytes for each standard of the log, in the standards' sequence: reference, optimized and

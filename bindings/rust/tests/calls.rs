@@ -1,5 +1,5 @@
-//! Every call on logs packed here: case W, a log with no uptime, standards of two modules, and bytes that are refused; the supplemental figures on
-//! R1-3 and on benchmarks with every fault; and the writing ones on records packed here too.
+//! Every call on logs packed here: case W, a log with no uptime, standards of two modules, and bytes that are refused; the losses on shares with
+//! equal remainders too; the supplemental figures on R1-3 and on benchmarks with every fault; and the writing ones on records packed here too.
 
 use tool_log::*;
 
@@ -84,6 +84,28 @@ fn two_modules(standards: &[([u64; 4], u64)]) -> Vec<u8> {
     log
 }
 
+// A log whose modules split the period, in ms, into the numerators of their losses and OEE: availability, operational, rate, quality, OEE. Units take
+// 1 ms.
+fn parted(modules: &[[u64; 5]]) -> Vec<u8> {
+    let (period, mut states, mut standards, mut units) = (modules[0].iter().sum(), Vec::new(), Vec::new(), Vec::new());
+    for (m, &[availability, operational, rate, quality, oee]) in (0..).zip(modules) {
+        let uptime = period - availability;
+        // Productive, then standby, then under repair.
+        let stretches = [(0, uptime - operational, 0), (uptime - operational, uptime, 7), (uptime, period, 18)];
+        states.extend(stretches.iter().filter(|stretch| stretch.0 < stretch.1).map(|&(begin, _, code)| (begin, m, code)));
+        standards.extend(standard([m, 0, 0, 1], 0));
+        units.extend(packed(&[(m, 6), (0, 10), (0, 35), (quality + oee, 16), (oee, 16), (0, 5)]));
+        assert_eq!(rate + quality + oee, uptime - operational);
+    }
+    states.sort();
+    let count = modules.len() as u64;
+    let mut log = header(period, count, states.len() as u64, count, count);
+    for (time, module, code) in states {
+        log.extend(packed(&[(module, 6), (code, 5), (time, 35), (0, 2)]));
+    }
+    [log, standards, units].concat()
+}
+
 fn benchmark(values: [u64; 4], spare: u64) -> Vec<u8> {
     let [reference, optimized, value_added, units] = values;
     packed(&[(reference, 27), (optimized, 27), (value_added, 27), (units, 27), (spare, 4)])
@@ -114,9 +136,11 @@ fn turned_back(log: &[u8], ground: Ground, list: List, place: u64) {
     assert_eq!(module_state_times(log, 1), Err(why));
     assert_eq!(module_quantities(log, 1), Err(why));
     assert_eq!(module_figures(log, 1), Err(why));
+    assert_eq!(module_losses(log, 1), Err(why));
     assert_eq!(tool_state_times(log), Err(why));
     assert_eq!(tool_quantities(log), Err(why));
     assert_eq!(tool_figures(log), Err(why));
+    assert_eq!(tool_losses(log), Err(why));
     for length in [0, 7, 14] {
         assert_eq!(supplemental(log, &buf[..length]), Err(why));
     }
@@ -198,7 +222,53 @@ fn a_module_that_is_not_there() {
         assert_eq!(module_state_times(&week(), m), Err(why));
         assert_eq!(module_quantities(&week(), m), Err(why));
         assert_eq!(module_figures(&week(), m), Err(why));
+        assert_eq!(module_losses(&week(), m), Err(why));
     }
+}
+
+fn bar([availability, operational, rate, quality, oee]: [u64; 5]) -> Result<Losses, Refusal> {
+    Ok(Losses { availability, operational, rate, quality, oee })
+}
+
+// What SEMI E79 prints in R1-2.
+#[test]
+fn losses_of_case_w() {
+    let log = week();
+    assert_eq!(module_losses(&log, 0), bar([298, 774, 595, 565, 7768]));
+    assert_eq!(module_losses(&log, 1), bar([595, 595, 179, 357, 8274]));
+    assert_eq!(module_losses(&log, 2), bar([0, 5238, 298, 0, 4464]));
+    assert_eq!(tool_losses(&log), bar([298, 2202, 357, 308, 6835]));
+}
+
+// Shares that are small fractions, so that remainders are equal: thirds, sevenths, ninths and others, worked out by hand.
+#[test]
+fn losses_of_fractions() {
+    for (parts, due) in [
+        ([1, 1, 1, 0, 0], [3334, 3333, 3333, 0, 0]),
+        ([0, 0, 1, 1, 1], [0, 0, 3334, 3333, 3333]),
+        // Three missing: the OEE has 5/7, the others 4/7.
+        ([1, 1, 1, 1, 3], [1429, 1429, 1428, 1428, 4286]),
+        // The OEE's 4/9 are the largest remainder; the report has 0.4444.
+        ([1, 1, 1, 2, 4], [1111, 1111, 1111, 2222, 4445]),
+        // Three missing, and four remainders of 2/3; the report has 0.1667.
+        ([1, 1, 1, 2, 1], [1667, 1667, 1667, 3333, 1666]),
+        // Two missing, and three remainders of 2/3, of which the nearest doubles make the OEE's the largest.
+        ([0, 0, 1, 1, 4], [0, 0, 1667, 1667, 6666]),
+        // Exact halves, two missing; then four missing, and five remainders of 4/5.
+        ([1, 1, 1, 1, 19996], [1, 1, 0, 0, 9998]),
+        ([1, 1, 1, 1, 12496], [1, 1, 1, 1, 9996]),
+        ([7, 0, 0, 0, 0], [10000, 0, 0, 0, 0]),
+        ([0, 0, 0, 0, 7], [0, 0, 0, 0, 10000]),
+    ] {
+        let log = parted(&[parts]);
+        assert_eq!(module_losses(&log, 0), bar(due));
+        assert_eq!(tool_losses(&log), bar(due));
+    }
+    // The tool's are 1, 2, 3, 1 and 7 of 14.
+    let log = parted(&[[1, 1, 1, 1, 3], [0, 1, 2, 0, 4]]);
+    assert_eq!(module_losses(&log, 0), bar([1429, 1429, 1428, 1428, 4286]));
+    assert_eq!(module_losses(&log, 1), bar([0, 1429, 2857, 0, 5714]));
+    assert_eq!(tool_losses(&log), bar([714, 1429, 2143, 714, 5000]));
 }
 
 fn four(reference: u64, optimized: u64, value_added: u64, total_effective_units: u64) -> Result<Supplemental, Refusal> {
