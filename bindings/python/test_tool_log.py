@@ -1,15 +1,16 @@
-"""Tests tool_log.py on logs packed here: case W, a log with no uptime, standards of two modules, and bytes that are refused; the supplemental figures
-on R1-3 and on benchmarks with every fault; and its writer on what is packed here too."""
+"""Tests tool_log.py on logs packed here: case W, a log with no uptime, standards of two modules, and bytes that are refused; the losses on all shares
+of short periods too; the supplemental figures on R1-3 and on benchmarks with every fault; and its writer on what is packed here too."""
 
 import enum
 import fractions
+import itertools
 import pathlib
 import random
 import re
 import unittest
 
 import tool_log
-from tool_log import Figures, Quantities, Refused, StateTimes, Supplemental, Writer, pack_benchmarks, supplemental, write_log
+from tool_log import Figures, Losses, Quantities, Refused, StateTimes, Supplemental, Writer, pack_benchmarks, supplemental, write_log
 
 ROOT = pathlib.Path(__file__).resolve().parent.parent.parent
 
@@ -81,6 +82,20 @@ def two_modules(*standards):
     return header(10, 2, 2, len(standards), 2) + b"".join(records)
 
 
+def parted(*modules, theoretical=None):
+    """A log whose modules split the period, in ms, into the numerators of their losses and OEE: availability, operational, rate, quality, OEE. Units
+    take 1 ms, or as many as are given for each module, which divide the last two."""
+    period, states, standards, units = sum(modules[0]), [], [], []
+    for m, (availability, operational, rate, quality, oee) in enumerate(modules):
+        each = theoretical[m] if theoretical else 1
+        # Productive, then standby, then under repair.
+        codes = {0: 0, rate + quality + oee: 7, period - availability: 18}
+        states += [(time, m, code) for time, code in codes.items() if time < period]
+        standards.append((m, 0, 0, each))
+        units.append((m, 0, 0, (quality + oee) // each, oee // each))
+    return write_log(period, len(modules), [(m, code, time) for time, m, code in sorted(states)], standards, units)
+
+
 def benchmark(*values, spare=0):
     return packed(*((value, 27) for value in values), (spare, 4))
 
@@ -96,10 +111,12 @@ CALLS = (
     tool_log.tool_state_times,
     tool_log.tool_quantities,
     tool_log.tool_figures,
+    tool_log.tool_losses,
     lambda log: tool_log.examine(log, 0),
     lambda log: tool_log.module_state_times(log, 1),
     lambda log: tool_log.module_quantities(log, 1),
     lambda log: tool_log.module_figures(log, 1),
+    lambda log: tool_log.module_losses(log, 1),
     lambda log: supplemental(log, b""),
     lambda log: supplemental(log, b"\xa5" * 7),
     lambda log: supplemental(log, b"\xa5" * 14),
@@ -161,7 +178,7 @@ class Calls(Case):
 
     def test_module_not_there(self):
         for m in (3, 64, 2**64 - 1):
-            for call in (tool_log.module_state_times, tool_log.module_quantities, tool_log.module_figures):
+            for call in (tool_log.module_state_times, tool_log.module_quantities, tool_log.module_figures, tool_log.module_losses):
                 self.refused(7, 0, m, call, case_w(), m)
         for m in (-1, 2**64):
             with self.assertRaises(ValueError):
@@ -230,6 +247,83 @@ class Calls(Case):
                 self.turned_back(log, 5)
             else:
                 self.assertRaises(Refused, tool_log.examine, log, 0)
+
+
+# All moves of whole numbers between the parts of a bar, at most two up and one down for each, by how many they add.
+MOVES = {n: [moves for moves in itertools.product((-1, 0, 1, 2), repeat=5) if sum(moves) == n] for n in range(5)}
+
+
+def nearest(parts):
+    """The five whole numbers that make 10,000 and lie nearest to the shares of the parts; of several such, those with the greatest earlier parts."""
+    total = sum(parts)
+    down = [10000 * part // total for part in parts]
+    bars = (tuple(map(sum, zip(down, moves))) for moves in MOVES[10000 - sum(down)])
+    return max(bars, key=lambda bar: (-sum(abs(total * n - 10000 * part) for n, part in zip(bar, parts)), bar))
+
+
+class Bars(Case):
+    def bars_are(self, log, *due):
+        """The losses and OEE of each module, and at last of the tool."""
+        *modules, tool = (Losses(availability=a, operational=o, rate=r, quality=q, oee=e) for a, o, r, q, e in due)
+        self.assertEqual([tool_log.module_losses(log, m) for m in range(len(modules))], modules)
+        self.assertEqual(tool_log.tool_losses(log), tool)
+        self.assertEqual(tool_log.module_count(log), len(modules))
+
+    def test_printed(self):
+        # What SEMI E79 prints in R1-2 and R1-1.
+        due = (298, 774, 595, 565, 7768), (595, 595, 179, 357, 8274), (0, 5238, 298, 0, 4464), (298, 2202, 357, 308, 6835)
+        self.bars_are(case_w(), *due)
+        self.bars_are((ROOT / "samples/r1-2.log").read_bytes(), *due)
+        self.bars_are((ROOT / "samples/r1-1.log").read_bytes(), *[(714, 536, 139, 119, 8492)] * 2)
+
+    def test_fractions(self):
+        # Shares that are small fractions, so that remainders are equal: thirds, sevenths, ninths and others, worked out by hand.
+        for parts, due in (
+            ((1, 1, 1, 0, 0), (3334, 3333, 3333, 0, 0)),
+            ((0, 0, 1, 1, 1), (0, 0, 3334, 3333, 3333)),
+            # Three missing: the OEE has 5/7, the others 4/7.
+            ((1, 1, 1, 1, 3), (1429, 1429, 1428, 1428, 4286)),
+            # Exact halves, two missing; then four missing, and five remainders of 4/5.
+            ((1, 1, 1, 1, 19996), (1, 1, 0, 0, 9998)),
+            ((1, 1, 1, 1, 12496), (1, 1, 1, 1, 9996)),
+            ((7, 0, 0, 0, 0), (10000, 0, 0, 0, 0)),
+            ((0, 0, 0, 0, 7), (0, 0, 0, 0, 10000)),
+        ):
+            self.bars_are(parted(parts), due, due)
+        # The tool's are 1, 2, 3, 1 and 7 of 14.
+        due = (1429, 1429, 1428, 1428, 4286), (0, 1429, 2857, 0, 5714), (714, 1429, 2143, 714, 5000)
+        self.bars_are(parted((1, 1, 1, 1, 3), (0, 1, 2, 0, 4)), *due)
+
+    def test_beside_the_report(self):
+        # The OEE's remainder is the largest with 4/9; and one of four with 2/3, of which three get one.
+        for parts, due, printed in (
+            ((1, 1, 1, 2, 4), (1111, 1111, 1111, 2222, 4445), "0.4444"),
+            ((1, 1, 1, 2, 1), (1667, 1667, 1667, 3333, 1666), "0.1667"),
+        ):
+            self.bars_are(parted(parts), due, due)
+            self.assertEqual(tool_log.report(parted(parts)).split()[-1], printed)
+
+    def test_all_shares(self):
+        for total in range(1, 9):
+            for parts in itertools.product(range(total + 1), repeat=5):
+                if sum(parts) == total:
+                    self.bars_are(parted(parts), nearest(parts), nearest(parts))
+
+    def test_random_shares(self):
+        # Up to the longest period and 64 modules.
+        source = random.Random(20261127)
+        for turn in range(100):
+            period, modules, theoretical = (source.randrange(1, 100), source.randrange(1, 31622400000), 31622400000)[turn % 3], [], []
+            for _ in range(source.randrange(1, 65)):
+                uptime = source.randint(0, period)
+                production = source.randint(0, uptime)
+                each = source.randint(1, min(2**27 - 1, max(1, production)))
+                actual = source.randint(0, min(65535, production // each))
+                effective = source.randint(0, actual)
+                modules.append((period - uptime, uptime - production, production - actual * each, (actual - effective) * each, effective * each))
+                theoretical.append(each)
+            tool = [sum(parts) for parts in zip(*modules)]
+            self.bars_are(parted(*modules, theoretical=theoretical), *map(nearest, modules), nearest(tool))
 
 
 def changed(i, which, value):

@@ -1,5 +1,5 @@
-"""The packed log of a semiconductor tool, answered: state times, the quantities, efficiencies and supplemental figures of SEMI E79, and the shift
-report; and written.
+"""The packed log of a semiconductor tool, answered: state times, the quantities, efficiencies, losses and supplemental figures of SEMI E79, and the
+shift report; and written.
 
 A log, and its benchmarks, are any bytes-like object. Each call answers a dataclass, text or bytes, or raises Refused. Times are whole milliseconds.
 A module is counted from 0. write_log makes a log of its records, Writer makes it record by record, and pack_benchmarks makes benchmarks.
@@ -106,6 +106,17 @@ class Figures:
 
 
 @dataclass(frozen=True)
+class Losses:
+    """The four losses and the OEE, in ten-thousandths of total time. They make 10,000, so this OEE may differ by 1 from the report's."""
+
+    availability: int
+    operational: int
+    rate: int
+    quality: int
+    oee: int
+
+
+@dataclass(frozen=True)
 class Supplemental:
     """The supplemental figures of the tool, in ten-thousandths of its total time."""
 
@@ -118,7 +129,7 @@ class Supplemental:
 # ---- the C functions
 
 _u32, _u64, _size = ctypes.c_uint32, ctypes.c_uint64, ctypes.c_size_t
-_Times, _Quantities, _Refusal = ctypes.c_uint64 * 6, ctypes.c_uint64 * 5, ctypes.c_uint64 * 3
+_Times, _Quantities, _Losses, _Refusal = ctypes.c_uint64 * 6, ctypes.c_uint64 * 5, ctypes.c_uint64 * 5, ctypes.c_uint64 * 3
 _Figures, _Based, _Supplemental, _Next = ctypes.c_double * 6, ctypes.c_uint8 * 4, ctypes.c_uint64 * 4, ctypes.c_uint64 * 1
 
 _library = ctypes.CDLL(os.environ.get("TOOL_LOG_LIBRARY") or str(pathlib.Path(__file__).resolve().parent / "libtool_log.so"))
@@ -140,6 +151,8 @@ _module_quantities = _function("tl_module_quantities", _u32, _size, _P(_Quantiti
 _tool_quantities = _function("tl_tool_quantities", _u32, _P(_Quantities), _P(_Refusal))
 _module_figures = _function("tl_module_figures", _u32, _size, _P(_Figures), _P(_Based), _P(_Refusal))
 _tool_figures = _function("tl_tool_figures", _u32, _P(_Figures), _P(_Based), _P(_Refusal))
+_module_losses = _function("tl_module_losses", _u32, _size, _P(_Losses), _P(_Refusal))
+_tool_losses = _function("tl_tool_losses", _u32, _P(_Losses), _P(_Refusal))
 _supplemental = _function("tl_supplemental", _u32, ctypes.c_char_p, _size, _P(_Supplemental), _P(_Refusal))
 _put_header = _function("tl_put_header", _u32, _size, _u64, _u64, _u64, _u64, _u64, _P(_Next), _P(_Refusal))
 _put_state = _function("tl_put_state", _u32, _size, _u64, _u64, _u64, _P(_Next), _P(_Refusal))
@@ -250,6 +263,18 @@ def tool_figures(log) -> Figures:
     figures, based = _Figures(), _Based()
     _ask(_tool_figures, log, ctypes.byref(figures), ctypes.byref(based))
     return _as_figures(figures, based)
+
+
+def module_losses(log, module: int) -> Losses:
+    losses = _Losses()
+    _ask(_module_losses, log, _module(module), ctypes.byref(losses))
+    return Losses(*losses)
+
+
+def tool_losses(log) -> Losses:
+    losses = _Losses()
+    _ask(_tool_losses, log, ctypes.byref(losses))
+    return Losses(*losses)
 
 
 def supplemental(log, benchmarks) -> Supplemental:
