@@ -4,7 +4,7 @@ import dataclasses
 import sys
 
 import tool_log
-from reading import read
+from reading import places, read
 
 
 def main():
@@ -15,7 +15,7 @@ def main():
         print(refused)
         return 1
     for name, figure in dataclasses.asdict(figures).items():
-        print(f"{name.replace('_', '-')} {figure // 10000}.{figure % 10000:04}")
+        print(name.replace("_", "-"), places(figure))
     return 0
 
 

@@ -1,5 +1,6 @@
 """Tests tool_log.py on logs packed here: case W, a log with no uptime, standards of two modules, and bytes that are refused; the losses on all shares
-of short periods too; the supplemental figures on R1-3 and on benchmarks with every fault; and its writer on what is packed here too."""
+of short periods too, and their picture; the supplemental figures on R1-3 and on benchmarks with every fault; and its writer on what is packed here
+too."""
 
 import enum
 import fractions
@@ -8,8 +9,10 @@ import pathlib
 import random
 import re
 import unittest
+import xml.etree.ElementTree
 
 import tool_log
+from losses import PARTS, picture
 from tool_log import Figures, Losses, Quantities, Refused, StateTimes, Supplemental, Writer, pack_benchmarks, supplemental, write_log
 
 ROOT = pathlib.Path(__file__).resolve().parent.parent.parent
@@ -324,6 +327,74 @@ class Bars(Case):
                 theoretical.append(each)
             tool = [sum(parts) for parts in zip(*modules)]
             self.bars_are(parted(*modules, theoretical=theoretical), *map(nearest, modules), nearest(tool))
+
+
+# The parts' names, and how wide they are in the picture in DejaVu Sans, a wide sans-serif: measured.
+NAMES = {"availability": 1088, "operational": 1139, "rate": 406, "quality": 684, "OEE": 410}
+
+
+def numbers(element, *names):
+    return [int(element.get(name)) for name in names]
+
+
+class Pictures(Case):
+    def bar_is(self, row, bar, colours):
+        """A drawn bar has these parts, one behind the other, and is full. The name in a part is all within it."""
+        frame, parts = row.find("rect"), row.findall("g")
+        x, y, width, height = numbers(frame, "x", "y", "width", "height")
+        end = x + 20
+        self.assertEqual(len(parts), sum(n > 0 for n in bar))
+        for (name, n), part in zip(((name, n) for name, n in zip(NAMES, bar) if n), parts):
+            drawn, letters = part.find("rect"), part.find("text")
+            self.assertEqual(numbers(drawn, "x", "y", "width", "height"), [end, y + 20, n, height - 40])
+            self.assertEqual((drawn.get("fill"), part.find("title").text), (colours[name], f"{name} {n / 10000:.4f}"))
+            if letters is not None:
+                self.assertEqual(letters.text, name)
+                self.assertTrue(end < int(letters.get("x")) < end + n - NAMES[name])
+            elif n >= 2 * NAMES[name]:
+                self.fail(f"no name in {name} of {n}")
+            end += n
+        self.assertEqual([end, width], [x + 20 + 10000, 10040])
+
+    def pictured(self, *bars):
+        """The bars of modules, and at last of the tool, as they are read off their picture."""
+        svg = picture([Losses(*bar) for bar in bars[:-1]], Losses(*bars[-1]))
+        self.assertTrue(svg.endswith("</svg>\n"))
+        root = xml.etree.ElementTree.fromstring(re.sub(' xmlns="[^"]*"', "", svg))
+        left, top, width, height = map(int, root.get("viewBox").split())
+        self.assertEqual([left, top, 3 * width, 3 * height], [0, 0, *(50 * n for n in numbers(root, "width", "height"))])
+        # Behind the background each part has its frame and its colour, and behind the title and the modules' heading its name.
+        colours = dict(zip(NAMES, (swatch.get("fill") for swatch in root.findall("rect")[2::2])))
+        self.assertEqual(list(colours.values()), [colour for _, colour, _ in PARTS])
+        headings = root.findall("text")[2:]
+        self.assertEqual([heading.text for heading in headings], list(NAMES))
+        names, rows, under = [*(f"module {m}" for m in range(len(bars) - 1)), "tool"], root.findall("g"), 0
+        self.assertEqual(len(rows), len(bars))
+        for name, bar, row in zip(names, bars, rows):
+            figures = [f"{n / 10000:.4f}" for n in bar]
+            self.assertEqual((row.get("role"), row.get("aria-label")), ("img", f"{name}: " + ", ".join(map(" ".join, zip(NAMES, figures)))))
+            self.assertEqual([text.text for text in row.findall("text")], [name.split()[-1], *figures])
+            self.assertEqual([text.get("x") for text in row.findall("text")[1:]], [heading.get("x") for heading in headings])
+            self.bar_is(row, bar, colours)
+            y, high = numbers(row.find("rect"), "y", "height")
+            self.assertLess(under, y)
+            under = y + high
+        self.assertLess(under, height)
+
+    def test_in_grey(self):
+        # Of 255, by the weights of ITU-R BT.601.
+        grey = [sum(weight * byte for weight, byte in zip((299, 587, 114), bytes.fromhex(colour[1:]))) // 1000 for _, colour, _ in PARTS]
+        for darker, lighter in zip(grey, grey[1:]):
+            self.assertGreater(lighter, darker + 30)
+
+    def test_pictures(self):
+        self.pictured((10000, 0, 0, 0, 0), (0, 0, 0, 0, 10000))
+        self.pictured((0, 10000, 0, 0, 0), (0, 0, 10000, 0, 0), (0, 0, 0, 10000, 0))
+        self.pictured((1, 1, 1, 1, 9996), (298, 2202, 357, 308, 6835))
+        source = random.Random(20261128)
+        for modules in (1, 2, 64):
+            cuts = [sorted(source.choices((0, 1000, 10000, source.randint(0, 10000), source.randint(0, 10000)), k=4)) for _ in range(modules + 1)]
+            self.pictured(*([b - a for a, b in zip([0, *cut], [*cut, 10000])] for cut in cuts))
 
 
 def changed(i, which, value):
