@@ -13,7 +13,7 @@ use Rattle.std.proofs.lemmas.Bool.{cases_lt}
 use Rattle.rules.specs.Quantities.{sum_below}
 use Rattle.rules.specs.Time.{count}
 use Rattle.rules.proofs.SumLaws.{sum_same, sum-le, sum-lt}
-use Rattle.losses.specs.Losses.{served_before, served}
+use Rattle.losses.specs.Losses.{ahead_of, served}
 
 -- ---- how many pass a test, as a sum
 
@@ -45,20 +45,20 @@ count-le p (suc n) = omega (arith, count-le p n, one-le (p n) true (λ e. refl))
 module _ (rest : ℕ → ℕ) where
   -- ---- the sequence of service
 
-  larger : (i j : ℕ) → rest i < rest j → served_before rest i j ≡ true
-  unfolding served_before
+  larger : (i j : ℕ) → rest i < rest j → ahead_of rest i j ≡ true
+  unfolding ahead_of
   larger i j h = rw (lt-ltb (rest i) (rest j) h)
 
-  smaller : (i j : ℕ) → rest j < rest i → served_before rest i j ≡ false
-  unfolding served_before
+  smaller : (i j : ℕ) → rest j < rest i → ahead_of rest i j ≡ false
+  unfolding ahead_of
   smaller i j h = rw (le-ltb (rest i) (rest j) (omega arith), ne_eqb (rest i) (rest j) (λ e. omega arith))
 
-  tie : (i j : ℕ) → rest i ≡ rest j → served_before rest i j ≡ ltb j i
-  unfolding served_before
+  tie : (i j : ℕ) → rest i ≡ rest j → ahead_of rest i j ≡ ltb j i
+  unfolding ahead_of
   tie i j e = rw (le-ltb (rest i) (rest j) (omega arith), eq-eqb (rest i) (rest j) e)
 
   -- j before i: no smaller remainder, and where they tie j is the earlier
-  before : (i j : ℕ) → served_before rest i j ≡ true → (rest i ≤ rest j) × (rest j ≤ rest i → j < i)
+  before : (i j : ℕ) → ahead_of rest i j ≡ true → (rest i ≤ rest j) × (rest j ≤ rest i → j < i)
   before i j e = elim (cases_lt (rest i) (rest j)) [
     | inl l ↦ omega arith
     | inr k ↦ elim (cases_lt (rest j) (rest i)) [
@@ -67,7 +67,7 @@ module _ (rest : ℕ → ℕ) where
     ]
   ]
 
-  not-before : (i j : ℕ) → served_before rest i j ≡ false → (rest j ≤ rest i) × (rest i ≤ rest j → i ≤ j)
+  not-before : (i j : ℕ) → ahead_of rest i j ≡ false → (rest j ≤ rest i) × (rest i ≤ rest j → i ≤ j)
   not-before i j e = elim (cases_lt (rest i) (rest j)) [
     | inl l ↦ let z : true ≡ false = sym (larger i j l) ∙ e in absurd (true≢false z)
     | inr k ↦ elim (cases_lt (rest j) (rest i)) [
@@ -76,58 +76,58 @@ module _ (rest : ℕ → ℕ) where
     ]
   ]
 
-  is-before : (i j : ℕ) → rest i ≤ rest j → (rest j ≤ rest i → j < i) → served_before rest i j ≡ true
+  is-before : (i j : ℕ) → rest i ≤ rest j → (rest j ≤ rest i → j < i) → ahead_of rest i j ≡ true
   is-before i j l h = elim (cases_lt (rest i) (rest j)) [
     | inl g ↦ larger i j g
     | inr g ↦ tie i j (omega arith) ∙ lt-ltb j i (h g)
   ]
 
-  in-turn : (i j k : ℕ) → served_before rest i j ≡ true → served_before rest j k ≡ true → served_before rest i k ≡ true
+  in-turn : (i j k : ℕ) → ahead_of rest i j ≡ true → ahead_of rest j k ≡ true → ahead_of rest i k ≡ true
   in-turn i j k p q =
       let a = before i j p in
       let b = before j k q in
       is-before i k (omega arith) (λ h. omega (arith, a.1 (omega arith), b.1 (omega arith)))
 
-  not-itself : (i : ℕ) → served_before rest i i ≡ false
+  not-itself : (i : ℕ) → ahead_of rest i i ≡ false
   not-itself i = tie i i refl ∙ le-ltb i i (omega arith)
 
   -- ---- how many are served before a part
 
   abbrev rank : ℕ → ℕ → ℕ
-  rank n i = count (served_before rest i) n
+  rank n i = count (ahead_of rest i) n
 
-  rank-le : (n i j : ℕ) → served_before rest i j ≡ true → rank n j ≤ rank n i
-  rank-le n i j e = rw (counted, counted) (sum-le _ _ n (λ k h. one-le (served_before rest j k) (served_before rest i k) (in-turn i j k e)))
+  rank-le : (n i j : ℕ) → ahead_of rest i j ≡ true → rank n j ≤ rank n i
+  rank-le n i j e = rw (counted, counted) (sum-le _ _ n (λ k h. one-le (ahead_of rest j k) (ahead_of rest i k) (in-turn i j k e)))
 
-  rank-lt : (n i j : ℕ) → j < n → served_before rest i j ≡ true → rank n j < rank n i
+  rank-lt : (n i j : ℕ) → j < n → ahead_of rest i j ≡ true → rank n j < rank n i
   rank-lt n i j l e =
-      rw (counted, counted) (sum-lt _ _ n j l (rw (not-itself j, e) (omega arith)) (λ k h. one-le (served_before rest j k) (served_before rest i k) (in-turn i j k e)))
+      rw (counted, counted) (sum-lt _ _ n j l (rw (not-itself j, e) (omega arith)) (λ k h. one-le (ahead_of rest j k) (ahead_of rest i k) (in-turn i j k e)))
 
   -- ---- just k are served
   -- one part more, n, behind whose c betters it stands: where k ≤ c it gets none and alters nothing, else it takes one
 
-  few : (n k i : ℕ) → k ≤ rank n n → ltb (one (served_before rest i n) + rank n i) k ≡ ltb (rank n i) k
-  few n k i l = go (served_before rest i n) refl
+  few : (n k i : ℕ) → k ≤ rank n n → ltb (one (ahead_of rest i n) + rank n i) k ≡ ltb (rank n i) k
+  few n k i l = go (ahead_of rest i n) refl
     where
-      go : (b : Bool) → served_before rest i n ≡ b → ltb (one b + rank n i) k ≡ ltb (rank n i) k
+      go : (b : Bool) → ahead_of rest i n ≡ b → ltb (one b + rank n i) k ≡ ltb (rank n i) k
       go true e = let h = rank-le n i n e in le-ltb (1 + rank n i) k (omega arith) ∙ sym (le-ltb (rank n i) k (omega arith))
       go false e = ap (λ (x : ℕ). ltb x k) (omega arith)
 
-  many : (n k i : ℕ) → i < n → rank n n ≤ k → ltb (one (served_before rest i n) + rank n i) (suc k) ≡ ltb (rank n i) k
-  many n k i l m = go (served_before rest i n) refl
+  many : (n k i : ℕ) → i < n → rank n n ≤ k → ltb (one (ahead_of rest i n) + rank n i) (suc k) ≡ ltb (rank n i) k
+  many n k i l m = go (ahead_of rest i n) refl
     where
-      go : (b : Bool) → served_before rest i n ≡ b → ltb (one b + rank n i) (suc k) ≡ ltb (rank n i) k
+      go : (b : Bool) → ahead_of rest i n ≡ b → ltb (one b + rank n i) (suc k) ≡ ltb (rank n i) k
       go true e = elim (cases_lt (rank n i) k) [
         | inl g ↦ lt-ltb (1 + rank n i) (suc k) (omega arith) ∙ sym (lt-ltb (rank n i) k g)
         | inr g ↦ le-ltb (1 + rank n i) (suc k) (omega arith) ∙ sym (le-ltb (rank n i) k g)
       ]
       go false e =
           let f = not-before i n e in
-          let p : served_before rest n i ≡ true = is-before n i f.0 (λ h. l) in
+          let p : ahead_of rest n i ≡ true = is-before n i f.0 (λ h. l) in
           let h = rank-lt n n i l p in
           lt-ltb (0 + rank n i) (suc k) (omega arith) ∙ sym (lt-ltb (rank n i) k (omega arith))
 
-  own : (n k : ℕ) → ltb (one (served_before rest n n) + rank n n) k ≡ ltb (rank n n) k
+  own : (n k : ℕ) → ltb (one (ahead_of rest n n) + rank n n) k ≡ ltb (rank n n) k
   own n k = rw (not-itself n) (ap (λ (x : ℕ). ltb x k) (omega arith))
 
   with-few : (n k : ℕ) → k ≤ rank n n → count (served rest (suc n) k) (suc n) ≡ count (served rest n k) n
@@ -150,7 +150,7 @@ module _ (rest : ℕ → ℕ) where
   just-as-many zero k h = none k h
   just-as-many (suc n) zero h = with-few n zero zero-le ∙ just-as-many n zero zero-le
   just-as-many (suc n) (suc k) h = elim (cases_lt k (rank n n)) [
-    | inl l ↦ with-few n (suc k) l ∙ just-as-many n (suc k) (omega (arith, count-le (served_before rest n) n))
+    | inl l ↦ with-few n (suc k) l ∙ just-as-many n (suc k) (omega (arith, count-le (ahead_of rest n) n))
     | inr l ↦ with-many n k l ∙ ap suc (just-as-many n k (omega arith))
   ]
 

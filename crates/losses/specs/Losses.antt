@@ -21,14 +21,14 @@ unfoldable pub missing : (ℕ → ℕ) → ℕ → ℕ → ℕ
 unfolding sum_below
 missing part total n = 10000 - sum_below (quotient part total) n
 
--- part j is served before part i: its remainder is larger, or they tie and it is the earlier part
-unfoldable pub served_before : (ℕ → ℕ) → ℕ → ℕ → Bool
-served_before rest i j = ltb (rest i) (rest j) || (eqb (rest i) (rest j) && ltb j i)
+-- part j is ahead of part i: its remainder is larger, or they tie and it is the earlier part
+unfoldable pub ahead_of : (ℕ → ℕ) → ℕ → ℕ → Bool
+ahead_of rest i j = ltb (rest i) (rest j) || (eqb (rest i) (rest j) && ltb j i)
 
--- of k that go one each to the largest of n remainders, part i gets one where fewer than k parts are served before it
+-- of k that go one each to the largest of n remainders, part i gets one where fewer than k parts are ahead of it
 unfoldable pub served : (ℕ → ℕ) → ℕ → ℕ → ℕ → Bool
-unfolding served_before count
-served rest n k i = ltb (count (served_before rest i) n) k
+unfolding ahead_of count
+served rest n k i = ltb (count (ahead_of rest i) n) k
 
 -- a share: the quotient rounded down, and one of the missing where the part gets one
 unfoldable pub share : (ℕ → ℕ) → ℕ → ℕ → ℕ → ℕ

@@ -5,7 +5,7 @@
 
 ghost use Rattle.std.specs.Prelude.{◌≡◌, ◌<◌, get_or, cond};
 ghost use Rattle.e79.specs.Quantities.{Ordered};
-ghost use Rattle.losses.specs.Losses.{served_before, served, losses_of, shares_of, AddsUp};
+ghost use Rattle.losses.specs.Losses.{ahead_of, served, losses_of, shares_of, AddsUp};
 
 use e79::Quantities;
 
@@ -28,11 +28,11 @@ impl From<Losses> for [u64; 5] {
     }
 }
 
-// Whether part j is served before part i: its remainder is larger, or they tie and it is the earlier part.
-#[tactic(auto, unfolding(crate::specs::Losses::served_before))]
-fn served_before(rests: &[u64; 5], i: usize, j: usize) -> bool
+// Whether part j is ahead of part i: its remainder is larger, or they tie and it is the earlier part.
+#[tactic(auto, unfolding(crate::specs::Losses::ahead_of))]
+fn ahead_of(rests: &[u64; 5], i: usize, j: usize) -> bool
     requires { (i < 5) × (j < 5) }
-    ensures { result ≡ served_before (λ k. get_or rests.now k 0) i j }
+    ensures { result ≡ ahead_of (λ k. get_or rests.now k 0) i j }
 {
     rests[i] < rests[j] || (rests[i] == rests[j] && j < i)
 }
@@ -42,13 +42,13 @@ fn one_more(rests: &[u64; 5], missing: u64, i: usize) -> u64
     requires { i < 5 }
     ensures { result ≡ cond (served (λ k. get_or rests.now k 0) 5 missing i) 1 0 }
 {
-    let mut before: u64 = 0;
+    let mut ahead: u64 = 0;
     for j in 0..5 {
-        if served_before(rests, i, j) {
-            before += 1;
+        if ahead_of(rests, i, j) {
+            ahead += 1;
         }
     }
-    u64::from(before < missing)
+    u64::from(ahead < missing)
 }
 
 // The five. The caller owes that the quantities are ordered.
