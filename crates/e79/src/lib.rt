@@ -1,10 +1,10 @@
 // The figures of SEMI E79 from five whole numbers: four efficiencies, the overall equipment efficiency (OEE) and the product of the four, as doubles
 // and as printed. Nothing here knows a log.
 //
-// `Portion n d` stands in six contracts, `0 < d` in three: a quotient is of any two quantities, and a type for two would be made at each call.
+// `Portion n d` stands in seven contracts, `0 < d` in four: a quotient is of any two quantities, and a type for two would be made at each call.
 // `printed_of_ordered` and `efficiency_of` are alike but for what they make of a quotient: a function over that step would be longer than both.
 //
-// The three public calls have a `requires`, so they are not for a buyer to link: they are called where that is shown, as it is of the quantities of
+// The four public calls have a `requires`, so they are not for a buyer to link: they are called where that is shown, as it is of the quantities of
 // every accepted log.
 #![tactic(auto)]
 

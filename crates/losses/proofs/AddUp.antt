@@ -15,6 +15,8 @@ use Rattle.std.proofs.lemmas.Bool.{cases_lt}
 use Rattle.e79.specs.declared.Quantities.{Quantities}
 use Rattle.e79.specs.Quantities.{Ordered}
 use Rattle.e79.specs.Accuracy.{gap}
+use Rattle.e79.specs.Printed.{rounded_of}
+use Rattle.e79.proofs.Printing.{half_not_reached, half_reached}
 use Rattle.rules.specs.Quantities.{sum_below}
 use Rattle.rules.proofs.SumLaws.{sum_same, sum-le, sum-add, sum-times, sum-each}
 use Rattle.losses.specs.declared.Losses.{Losses}
@@ -143,6 +145,24 @@ module _ (part : ℕ → ℕ) (d n : ℕ) (some : 0 < d) (whole : sum_below part
       let v = share part d n in
       let l = sum-le (λ i. far part d v i + (w i * d + v i * between * 2)) (λ i. far part d w i + (v i * d + w i * between * 2)) n (λ i h. loses d between (quotient part d i) (remainder part d i) (10000 * part i) (exact i) (omega (arith, short i)) low (has i) (w i) (high i h) (most-above has (remainder part d) n i h)) in
       omega (arith, rw (sums (far part d v) v w, sums (far part d w) w v, e, add-up) at l)
+
+-- ---- a share beside the printed figure of its part: both are the quotient rounded down, or one more
+
+beside : (f x : ℕ) (b : Bool) → f ≤ x → x ≤ f + 1 → gap (f + one b) x ≤ 1
+beside f x true l h = omega arith
+beside f x false l h = omega arith
+
+pub beside-printed : (part : ℕ → ℕ) (d n i : ℕ) → 0 < d → gap (share part d n i) (rounded_of (part i) d) ≤ 1
+unfolding share
+beside-printed part d n i some =
+    let f = quotient part d i in
+    let x = rounded_of (part i) d in
+    let near : (f ≤ x) × (x ≤ f + 1) =
+    elim (cases_lt (remainder part d i * 2) d) [
+      | inl l ↦ omega (arith, half_not_reached (part i) d some l)
+      | inr l ↦ omega (arith, half_reached (part i) d some l)
+    ] in
+    beside f x (served (remainder part d) n (missing part d n) i) near.0 near.1
 
 -- ---- the five parts of total time
 
