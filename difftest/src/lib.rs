@@ -1,10 +1,11 @@
-//! Tests the tool-log library from outside: documents 01 and 02, as far as R-5, in plain Rust,
-//! apart from the library (`oracle`, `writing`, `supplemental`), a seeded generator of logs, of
+//! Tests the tool-log library from outside: documents 01 and 02, as far as R-6, in plain Rust,
+//! apart from the library (`oracle`, `writing`, `supplemental`, `losses`), a seeded generator of logs, of
 //! runs of calls that write them and of benchmarks, and the comparison with the linked library.
 
 pub mod arguments;
 pub mod draft;
 pub mod generator;
+pub mod losses;
 pub mod oracle;
 pub mod prng;
 pub mod records;

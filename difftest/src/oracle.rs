@@ -1,6 +1,7 @@
 //! Document 01 with the rising sequence of R-1 and the standards of R-5 in plain Rust, written to be read beside them and not
 //! to be fast.
 
+use crate::losses::Bar;
 use crate::records::*;
 
 /// The greatest sum that a tool may have: 2^53 - 1.
@@ -486,24 +487,41 @@ impl Account {
         self.table(
             "productive standby engineering scheduled unscheduled nonscheduled",
             |sums| sums.state_times.to_vec(),
+            |time| time.to_string(),
         )
     }
 
     /// The five quantities of each module and of the tool.
     pub fn quantities(&self) -> Vec<u8> {
-        self.table("total uptime production actual effective", |sums| {
-            sums.quantities.array().to_vec()
-        })
+        self.table(
+            "total uptime production actual effective",
+            |sums| sums.quantities.array().to_vec(),
+            |quantity| quantity.to_string(),
+        )
     }
 
-    fn table(&self, columns: &str, numbers: impl Fn(&Sums) -> Vec<u64>) -> Vec<u8> {
+    /// The four losses and OEE of each module and of the tool, as R-6 has them.
+    pub fn losses(&self) -> Vec<u8> {
+        self.table(
+            "availability operational rate quality oee",
+            |sums| Bar::of(&sums.quantities).parts.to_vec(),
+            four_places,
+        )
+    }
+
+    fn table(
+        &self,
+        columns: &str,
+        numbers: impl Fn(&Sums) -> Vec<u64>,
+        printed: impl Fn(u64) -> String,
+    ) -> Vec<u8> {
         let mut text = format!("module {columns}\n");
         let modules = (0..).map(|module: usize| module.to_string());
         let names = modules.take(self.modules.len()).chain(["tool".to_string()]);
         for (name, sums) in names.zip(self.modules.iter().chain([&self.tool])) {
             text.push_str(&name);
             for number in numbers(sums) {
-                text.push_str(&format!(" {number}"));
+                text.push_str(&format!(" {}", printed(number)));
             }
             text.push('\n');
         }

@@ -1,8 +1,9 @@
-//! Counts what a run met, so that a generator that misses a refusal shows.
+//! Counts what a run met, so that a refusal or a tie that a generator misses shows.
 
+use crate::oracle::Account;
 use crate::records::*;
 use crate::supplemental::Supplemental;
-use std::collections::BTreeMap;
+use std::collections::{BTreeMap, BTreeSet};
 use std::fmt;
 
 /// What a log can be refused for, number and list. 17 cannot be met: after 16 no sum passes its bound. 18 is for a buffer.
@@ -32,6 +33,14 @@ const OF_LOGS: [(u64, u64); 24] = [
     (19, STANDARDS),
     (19, UNITS),
 ];
+
+/// How many remainders may be equal.
+const TIED: [usize; 4] = [2, 3, 4, 5];
+
+/// So many equal remainders, and how many of them may get one where the others get none.
+fn ties(tied: usize) -> impl Iterator<Item = (usize, usize)> {
+    (1..tied).map(move |getting| (tied, getting))
+}
 
 /// How many were accepted, and how many refused by number and list.
 #[derive(Default)]
@@ -79,6 +88,10 @@ impl Verdicts {
 pub struct Tally {
     pub logs: Verdicts,
     pub short_buffers: u64,
+    /// The accepted logs by how many a bar of theirs has missing; those with a tie that decides, and by what it decides.
+    missing: [u64; 5],
+    tied: u64,
+    ties: BTreeMap<(usize, usize), u64>,
     /// Of the calls for supplemental figures.
     pub supplemental: Verdicts,
     above_zero: u64,
@@ -92,6 +105,20 @@ pub struct Tally {
 impl Tally {
     pub fn count<T>(&mut self, verdict: &Result<T, Refusal>) {
         self.logs.count(verdict);
+    }
+
+    /// The bars of a log, each class of them once.
+    pub fn count_losses(&mut self, verdict: &Result<Account, Refusal>) {
+        let bars = verdict.as_ref().map_or(Vec::new(), Account::bars);
+        let missing: BTreeSet<usize> = bars.iter().map(|bar| bar.missing).collect();
+        for missing in missing {
+            self.missing[missing] += 1;
+        }
+        let ties: BTreeSet<(usize, usize)> = bars.iter().filter_map(|bar| bar.tie).collect();
+        self.tied += u64::from(!ties.is_empty());
+        for tie in ties {
+            *self.ties.entry(tie).or_default() += 1;
+        }
     }
 
     pub fn count_supplemental(&mut self, answer: &Result<Supplemental, Refusal>) {
@@ -119,6 +146,20 @@ impl Tally {
         self.never_met().into_iter().chain(short).collect()
     }
 
+    fn ties_of(&self, tie: (usize, usize)) -> u64 {
+        *self.ties.get(&tie).unwrap_or(&0)
+    }
+
+    /// What no bar met: so many missing, and so many of so many equal remainders that get one.
+    pub fn never_met_in_losses(&self) -> Vec<String> {
+        let missing = (0..5).filter(|missing| self.missing[*missing] == 0);
+        let missing = missing.map(|missing| format!("{missing} missing"));
+        let ties = TIED.into_iter().flat_map(ties);
+        let ties = ties.filter(|tie| self.ties_of(*tie) == 0);
+        let ties = ties.map(|(tied, getting)| format!("{getting} of {tied} tied"));
+        missing.chain(ties).collect()
+    }
+
     /// What no benchmarks met: the numbers of list 4, a refusal of the log, and four figures above 0.
     pub fn never_met_in_supplemental(&self) -> Vec<String> {
         let numbers = [5, 6, 12, 20, 21].map(|number| (number, BENCHMARKS));
@@ -126,6 +167,16 @@ impl Tally {
         let above_zero = (self.above_zero == 0).then(|| String::from("figures above 0"));
         let missed = self.supplemental.never_met(&numbers).into_iter();
         missed.chain(of_log).chain(above_zero).collect()
+    }
+
+    /// What a run without buffers and calls that write did not meet.
+    pub fn never_met_in_reading(&self) -> Vec<String> {
+        let all = [
+            self.never_met(),
+            self.never_met_in_losses(),
+            self.never_met_in_supplemental(),
+        ];
+        all.concat()
     }
 
     fn too_wide_by(&self, field: (u64, usize)) -> u64 {
@@ -161,6 +212,17 @@ impl Tally {
         let refused = self.supplemental.refused.iter();
         let by_log = refused.filter(|((_, list), _)| *list != BENCHMARKS);
         by_log.map(|(_, count)| count).sum()
+    }
+
+    /// The bars of the accepted logs.
+    pub fn losses(&self) -> String {
+        let mut text = format!("0 to 4 missing in a bar: {:?} logs\n", self.missing);
+        text += &format!("a tie decides in a bar: {} logs\n", self.tied);
+        for tied in TIED {
+            let counts: Vec<u64> = ties(tied).map(|tie| self.ties_of(tie)).collect();
+            text += &format!("{tied} tied, of which 1 and more get one: {counts:?} logs\n");
+        }
+        text
     }
 
     /// The calls for supplemental figures.

@@ -1,7 +1,7 @@
-//! Reads one log from standard input and prints its report, its state times, its quantities or, with the benchmarks of a
-//! file, its supplemental figures; or the refused line.
+//! Reads one log from standard input and prints its report, its state times, its quantities, its losses or, with the benchmarks
+//! of a file, its supplemental figures; or the refused line.
 //!
-//! oracle [times|quantities|supplemental BENCHMARKS]
+//! oracle [times|quantities|losses|supplemental BENCHMARKS]
 
 use difftest::oracle::account;
 use difftest::supplemental::{supplemental, text};
@@ -15,6 +15,7 @@ fn main() -> std::io::Result<()> {
     let answer = match arguments[..] {
         ["times"] => account(&log).map(|account| account.times()),
         ["quantities"] => account(&log).map(|account| account.quantities()),
+        ["losses"] => account(&log).map(|account| account.losses()),
         ["supplemental", benchmarks] => {
             supplemental(&log, &std::fs::read(benchmarks)?).map(|figures| text(&figures))
         }
