@@ -3,7 +3,10 @@
 use difftest::draft::Draft;
 use difftest::generator::runs::records;
 use difftest::generator::{make, Expected};
-use difftest::oracle::{account, in_force, read, standard_of, Account, Log, Quantities};
+use difftest::losses::{shares, Bar, WHOLE};
+use difftest::oracle::{
+    account, in_force, read, standard_of, ten_thousandths, Account, Log, Quantities,
+};
 use difftest::prng::Prng;
 use difftest::records::*;
 use difftest::tally::Tally;
@@ -18,6 +21,7 @@ fn the_oracle_answers_what_the_generator_expects() {
         let made = make(3, index);
         let verdict = account(&made.bytes);
         tally.count(&verdict);
+        tally.count_losses(&verdict);
         let expected = made.expected;
         assert!(
             expected.agrees(&verdict),
@@ -26,6 +30,8 @@ fn the_oracle_answers_what_the_generator_expects() {
         );
     }
     assert!(tally.never_met().is_empty(), "{:?}", tally.never_met());
+    let of_bars = tally.never_met_in_losses();
+    assert!(of_bars.is_empty(), "{of_bars:?}");
 }
 
 #[test]
@@ -516,6 +522,41 @@ fn shapes_of_standards(log: &Log, note: &mut impl FnMut(&str, bool)) {
     }
 }
 
+/// Every two parts of which the earlier wins a tie, and those that win by a little; whose bar has a tie; and OEE beside the report's.
+fn shapes_of_bars(account: &Account, note: &mut impl FnMut(&str, bool)) {
+    for sums in account.modules.iter().chain([&account.tool]) {
+        let quantities = &sums.quantities;
+        let total = u128::from(quantities.total);
+        let exact = shares(quantities).map(|share| u128::from(WHOLE) * u128::from(share));
+        let parts = Bar::of(quantities).parts.map(u128::from);
+        let gets_one = |part: usize| parts[part] > exact[part] / total;
+        for (one, other) in (0..25).map(|pair| (pair / 5, pair % 5)) {
+            if !gets_one(one) || gets_one(other) {
+                continue;
+            }
+            let (more, less) = (exact[one] % total, exact[other] % total);
+            note(&format!("part {one} ahead of {other}"), more == less);
+            // By less than a millionth of a ten-thousandth.
+            let little = more > less && (more - less) * 1_000_000 < total;
+            note(&format!("part {one} a little above {other}"), little);
+        }
+        let reported = ten_thousandths(quantities.effective, quantities.total);
+        note("OEE above the report's", parts[4] > u128::from(reported));
+        note("OEE below the report's", parts[4] < u128::from(reported));
+    }
+    let bars = account.bars();
+    let tied: Vec<bool> = bars.iter().map(|bar| bar.tie.is_some()).collect();
+    let (of_tool, of_modules) = tied.split_last().expect("the tool's");
+    note(
+        "tie of the tool alone",
+        *of_tool && !of_modules.contains(&true),
+    );
+    note(
+        "tie of some modules",
+        of_modules.contains(&true) && of_modules.contains(&false),
+    );
+}
+
 /// Names of the shapes that an accepted log has.
 fn shapes(log: &Log, account: &Account) -> Vec<String> {
     let mut shapes = vec![format!("{} modules", log.header.modules)];
@@ -565,6 +606,8 @@ fn shapes(log: &Log, account: &Account) -> Vec<String> {
             half(q.uptime, q.total) || half(q.actual, q.production) || half(q.effective, q.total)
         })
     });
+
+    shapes_of_bars(account, &mut note);
 
     // Neighbours in sequence that a field behind the first parts, or would part the other way.
     note("states of one time", {
@@ -689,6 +732,14 @@ fn every_shape_is_met() {
     let mut due: Vec<String> = (1..=64).map(|count| format!("{count} modules")).collect();
     due.extend((0..24).map(|code| format!("code {code}")));
     due.extend(tables().iter().map(Table::name));
+    for (one, other) in (0..25).map(|pair| (pair / 5, pair % 5)) {
+        if one < other {
+            due.push(format!("part {one} ahead of {other}"));
+        }
+        if one != other {
+            due.push(format!("part {one} a little above {other}"));
+        }
+    }
     due.extend(
         [
             "period 1",
@@ -706,6 +757,10 @@ fn every_shape_is_met() {
             "production without units",
             "units without good ones",
             "an exact half in the fifth place",
+            "OEE above the report's",
+            "OEE below the report's",
+            "tie of the tool alone",
+            "tie of some modules",
             "states of one time",
             "states, a later time and a lower module",
             "standards of one module and recipe",

@@ -22,6 +22,7 @@ fn main() -> ExitCode {
         let made = make(seed, index);
         let verdict = account(&made.bytes);
         tally.count(&verdict);
+        tally.count_losses(&verdict);
         if verdict.is_ok() {
             accepted_bytes = accepted_bytes.max(made.bytes.len());
         }
@@ -48,9 +49,10 @@ fn main() -> ExitCode {
     }
     print!("{tally}");
     println!("longest accepted log: {accepted_bytes} bytes");
+    print!("{}", tally.losses());
     print!("{}", tally.supplemental());
-    let (by_logs, by_benchmarks) = (tally.never_met(), tally.never_met_in_supplemental());
-    println!("never met: {by_logs:?}, {by_benchmarks:?}; unexpected: {unexpected}");
-    let all_met = by_logs.is_empty() && by_benchmarks.is_empty();
+    let never_met = tally.never_met_in_reading();
+    println!("never met: {never_met:?}; unexpected: {unexpected}");
+    let all_met = never_met.is_empty();
     ExitCode::from(u8::from(unexpected > 0 || !all_met))
 }

@@ -183,7 +183,7 @@ fn damaged(rng: &mut Prng, limits: &[Limits]) -> Made {
     let mut benchmarks = valid_benchmarks(rng, limits);
     let bytes = match rng.below(4) {
         0..=1 => {
-            let later = rng.index(benchmarks.len());
+            let later = later_of_two(rng, limits);
             benchmarks.swap(later.saturating_sub(1), later);
             packed(&benchmarks)
         }
@@ -197,6 +197,20 @@ fn damaged(rng: &mut Prng, limits: &[Limits]) -> Made {
     Made {
         bytes,
         expected: Expected::Unknown,
+    }
+}
+
+/// The second of two neighbours to exchange: once in two, if there is one, with no more time and fewer units than the first, so
+/// that the first may pass and the second have too many units.
+fn later_of_two(rng: &mut Prng, limits: &[Limits]) -> usize {
+    let less = |one: &Limits, next: &Limits| next.time <= one.time && next.units < one.units;
+    let chosen: Vec<usize> = (1..limits.len())
+        .filter(|&later| less(&limits[later - 1], &limits[later]))
+        .collect();
+    if chosen.is_empty() || rng.once_in(2) {
+        rng.index(limits.len())
+    } else {
+        rng.pick(&chosen)
     }
 }
 

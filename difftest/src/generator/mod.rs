@@ -1,6 +1,7 @@
 //! Makes logs from a seed: valid ones of every shape and damaged ones of every kind; runs of calls that write them, and
 //! benchmarks for them.
 
+mod bars;
 pub mod benchmarks;
 mod faults;
 mod raw;
@@ -35,10 +36,17 @@ pub struct Made {
     pub expected: Expected,
 }
 
+/// Once in so many logs the remainders of the losses are chosen.
+const BARS_ONCE_IN: u64 = 6;
+
 /// The log of a seed and an index.
 pub fn make(seed: u64, index: u64) -> Made {
     let mut rng = Prng::new(seed, index);
-    let draft = valid::draft(&mut rng);
+    let draft = if rng.once_in(BARS_ONCE_IN) {
+        bars::draft(&mut rng)
+    } else {
+        valid::draft(&mut rng)
+    };
     match rng.below(100) {
         0..=44 => Made {
             bytes: draft.bytes(),

@@ -600,19 +600,32 @@ pub fn fill(rng: &mut Prng, draft: &mut Draft, module: u64, time_for_units: u64)
         return;
     }
     let mut left = time_for_units;
+    units_of_steps(rng, draft, module, |rng, theoretical| {
+        let actual = left / theoretical;
+        left -= actual * theoretical;
+        (actual, effective(rng, actual))
+    });
+}
+
+/// Adds a unit record of a recipe of its own for each step; `made` says how many units it has, actual and effective.
+pub fn units_of_steps(
+    rng: &mut Prng,
+    draft: &mut Draft,
+    module: u64,
+    mut made: impl FnMut(&mut Prng, u64) -> (u64, u64),
+) {
     for theoretical in STEPS {
         let recipe = unused_recipe(rng, draft, module);
         let start = rng.below(draft.period);
         let time = rng.between(start, draft.period - 1);
-        let actual = left / theoretical;
-        left -= actual * theoretical;
+        let (actual, effective) = made(rng, theoretical);
         add_standard(draft, (module, recipe), start, theoretical);
         let unit = UnitRecord {
             module,
             recipe,
             time,
             actual,
-            effective: effective(rng, actual),
+            effective,
             spare: 0,
         };
         add_unit(draft, unit);
