@@ -1,6 +1,7 @@
 //! Compares what the library answers for one log with what the oracle answers.
 
 use crate::library::{self, Answer, FiguresAndBases, Whose, UNTOUCHED, UNTOUCHED_FLAG};
+use crate::losses::Bar;
 use crate::oracle::{figures, Account, Figures, Sums};
 use crate::records::Refusal;
 use crate::supplemental::Supplemental;
@@ -56,6 +57,9 @@ impl<'a> Comparison<'a> {
         for whose in comparison.askings(middle) {
             comparison.sums_and_figures(whose);
         }
+        for whose in comparison.all() {
+            comparison.losses(whose);
+        }
         comparison
     }
 
@@ -95,17 +99,31 @@ impl<'a> Comparison<'a> {
         }
     }
 
-    /// Modules to ask for, and the tool.
-    fn askings(&self, middle: usize) -> Vec<Whose> {
-        let count = match self.verdict {
+    /// The modules of the log; one where it is refused.
+    fn count(&self) -> usize {
+        match self.verdict {
             Ok(account) => account.modules.len(),
             Err(_) => 1,
-        };
+        }
+    }
+
+    /// Modules to ask for, and the tool.
+    fn askings(&self, middle: usize) -> Vec<Whose> {
+        let count = self.count();
         let modules = [0, middle % count, count - 1, count, count + 1, usize::MAX];
         let mut askings: Vec<Whose> = modules.map(Whose::Module).to_vec();
         askings.dedup();
         askings.push(Whose::Tool);
         askings
+    }
+
+    /// Every module, those next to them, some far above, and the tool.
+    fn all(&self) -> Vec<Whose> {
+        let count = self.count();
+        let far = [64, 1 << 40, usize::MAX].into_iter();
+        let above = far.filter(|module| *module > count + 1);
+        let modules = (0..count + 2).chain(above).map(Whose::Module);
+        modules.chain([Whose::Tool]).collect()
     }
 
     fn differs(&mut self, what: &str, expected: &dyn Debug, answered: &dyn Debug) {
@@ -196,6 +214,15 @@ impl<'a> Comparison<'a> {
             &format!("figures of {whose:?}"),
             expected.map(|sums| figures(&sums.quantities)),
             library::figures(self.log, whose),
+        );
+    }
+
+    fn losses(&mut self, whose: Whose) {
+        let expected = self.expected_sums(whose);
+        self.compare_numbers(
+            &format!("losses of {whose:?}"),
+            expected.map(|sums| Bar::of(&sums.quantities).parts),
+            library::losses(self.log, whose),
         );
     }
 

@@ -45,14 +45,27 @@ pub fn report(log: &[u8], buffer: &mut [u8]) -> usize {
     unsafe { c::tl_report(log.as_ptr(), log.len(), buffer.as_mut_ptr(), buffer.len()) }
 }
 
-pub fn state_times(log: &[u8], whose: Whose) -> Answer<[u64; 6]> {
-    let (mut values, mut refusal) = ([UNTOUCHED; 6], [UNTOUCHED; 3]);
+/// A call that answers so many numbers of a module of a log.
+type OfModule<const N: usize> =
+    unsafe extern "C" fn(*const u8, usize, usize, *mut [u64; N], *mut [u64; 3]) -> u32;
+
+/// The same of the tool.
+type OfTool<const N: usize> =
+    unsafe extern "C" fn(*const u8, usize, *mut [u64; N], *mut [u64; 3]) -> u32;
+
+fn numbers<const N: usize>(
+    log: &[u8],
+    whose: Whose,
+    of_module: OfModule<N>,
+    of_tool: OfTool<N>,
+) -> Answer<[u64; N]> {
+    let (mut values, mut refusal) = ([UNTOUCHED; N], [UNTOUCHED; 3]);
     let (start, length) = (log.as_ptr(), log.len());
     let answered = match whose {
         Whose::Module(module) => unsafe {
-            c::tl_module_state_times(start, length, module, &mut values, &mut refusal)
+            of_module(start, length, module, &mut values, &mut refusal)
         },
-        Whose::Tool => unsafe { c::tl_tool_state_times(start, length, &mut values, &mut refusal) },
+        Whose::Tool => unsafe { of_tool(start, length, &mut values, &mut refusal) },
     };
     Answer {
         answered,
@@ -61,20 +74,16 @@ pub fn state_times(log: &[u8], whose: Whose) -> Answer<[u64; 6]> {
     }
 }
 
+pub fn state_times(log: &[u8], whose: Whose) -> Answer<[u64; 6]> {
+    numbers(log, whose, c::tl_module_state_times, c::tl_tool_state_times)
+}
+
 pub fn quantities(log: &[u8], whose: Whose) -> Answer<[u64; 5]> {
-    let (mut values, mut refusal) = ([UNTOUCHED; 5], [UNTOUCHED; 3]);
-    let (start, length) = (log.as_ptr(), log.len());
-    let answered = match whose {
-        Whose::Module(module) => unsafe {
-            c::tl_module_quantities(start, length, module, &mut values, &mut refusal)
-        },
-        Whose::Tool => unsafe { c::tl_tool_quantities(start, length, &mut values, &mut refusal) },
-    };
-    Answer {
-        answered,
-        values,
-        refusal,
-    }
+    numbers(log, whose, c::tl_module_quantities, c::tl_tool_quantities)
+}
+
+pub fn losses(log: &[u8], whose: Whose) -> Answer<[u64; 5]> {
+    numbers(log, whose, c::tl_module_losses, c::tl_tool_losses)
 }
 
 pub fn figures(log: &[u8], whose: Whose) -> Answer<FiguresAndBases> {

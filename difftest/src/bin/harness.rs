@@ -32,6 +32,7 @@ fn main() -> ExitCode {
 
         let verdict = account(log);
         tally.count(&verdict);
+        tally.count_losses(&verdict);
         let mut comparison = Comparison::of(log, &verdict, index as usize / 8);
         tally.short_buffers += comparison.short_buffers;
         let mut lines = Vec::new();
@@ -68,10 +69,12 @@ fn main() -> ExitCode {
         "refused 18 list 0: {} verdicts on a short buffer",
         tally.short_buffers
     );
+    print!("{}", tally.losses());
     print!("{}", tally.supplemental());
     print!("{}", tally.writing());
     let all_met = [
         never_met("by a log", &tally.never_met_with_buffers()),
+        never_met("by a bar", &tally.never_met_in_losses()),
         never_met("by benchmarks", &tally.never_met_in_supplemental()),
         never_met("by an adding call", &tally.never_met_in_adding()),
         never_met("by a finishing call", &tally.never_met_in_finishing()),
