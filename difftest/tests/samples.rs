@@ -1,7 +1,7 @@
 //! The sample logs and benchmarks give their expected output, and the figures that the papers print.
 
 use difftest::draft::Draft;
-use difftest::oracle::{account, read};
+use difftest::oracle::{account, read, Account};
 use difftest::records::*;
 use difftest::supplemental::{supplemental, text};
 use std::fs;
@@ -64,19 +64,19 @@ fn expected_output() {
 /// The tables that `toollog` has to print of each accepted sample.
 #[test]
 fn expected_tables() {
-    let mut accepted = 0;
-    for path in files(&folder(), "log") {
-        if let Ok(account) = account(&bytes(&path)) {
-            assert_eq!(account.times(), printed(&path, "times"), "{path:?}");
-            assert_eq!(
-                account.quantities(),
-                printed(&path, "quantities"),
-                "{path:?}"
-            );
-            accepted += 1;
+    let tables: [(&str, fn(&Account) -> Vec<u8>); 3] = [
+        ("times", Account::times),
+        ("quantities", Account::quantities),
+        ("losses", Account::losses),
+    ];
+    for (subcommand, table) in tables {
+        let mut accepted = 0;
+        for path in files(&folder(), "log") {
+            if let Ok(account) = account(&bytes(&path)) {
+                assert_eq!(table(&account), printed(&path, subcommand), "{path:?}");
+                accepted += 1;
+            }
         }
-    }
-    for subcommand in ["times", "quantities"] {
         assert_eq!(accepted, files(&printed_folder(), subcommand).len());
     }
 }
@@ -200,6 +200,34 @@ fn chamber_by_its_own_time() {
         output(&one_time.bytes()),
         shows("0.7500 0.9800 0.6125", "0.7500 0.9800 0.6125")
     );
+}
+
+/// The bars of samples/README.md. Each rounded to the nearest, the parts of the new chamber's tool would make 9,999 and those of the guidebook 10,001;
+/// OEE is one above the report's, and one below it.
+#[test]
+fn losses_by_hand() {
+    let losses = |name: &str| -> Vec<String> {
+        let table = account(&log(name)).expect("accepted").losses();
+        let lines = String::from_utf8(table).expect("text");
+        lines.lines().skip(1).map(String::from).collect()
+    };
+    // A day of three modules, 259,200 s: 21,600 twice, 72,000, 2,880, 141,120. Of one, 86,400 s: 7,200 twice, 18,000, 1,080, 52,920, and 7,200
+    // twice, 36,000, 720, 35,280.
+    assert_eq!(
+        losses("chamber"),
+        [
+            "0 0.0834 0.0833 0.2083 0.0125 0.6125",
+            "1 0.0834 0.0833 0.2083 0.0125 0.6125",
+            "2 0.0834 0.0833 0.4167 0.0083 0.4083",
+            "tool 0.0833 0.0833 0.2778 0.0111 0.5445",
+        ]
+    );
+    assert!(output(&log("chamber")).ends_with(" 0.5444\n"));
+    // A week, 10,080 minutes: 2,160, 1,776, 1,078.2, 356.8, 4,709.
+    let guidebook = "0.2143 0.1762 0.1070 0.0354 0.4671";
+    let lines = ["0", "tool"].map(|name| format!("{name} {guidebook}"));
+    assert_eq!(losses("guidebook"), lines);
+    assert!(output(&log("guidebook")).ends_with(" 0.4672\n"));
 }
 
 /// What the etcher shows, and what it would show by the first standard that covers the recipe.
