@@ -1,7 +1,8 @@
 //! availability, operational, rate and quality loss and OEE in ten-thousandths of total time, a bar of five parts that
 //! make 10,000.
 
-use crate::oracle::{Account, Quantities};
+use crate::oracle::{ten_thousandths, Account, Quantities, Sums};
+use std::cmp::Ordering;
 
 /// What the five parts of a bar make.
 pub const WHOLE: u64 = 10_000;
@@ -95,9 +96,23 @@ impl Bar {
 }
 
 impl Account {
+    /// Of the modules and, last, of the tool.
+    fn sums(&self) -> impl Iterator<Item = &Sums> {
+        self.modules.iter().chain([&self.tool])
+    }
+
     /// The bars of the modules and, last, of the tool.
     pub fn bars(&self) -> Vec<Bar> {
-        let sums = self.modules.iter().chain([&self.tool]);
-        sums.map(|sums| Bar::of(&sums.quantities)).collect()
+        let quantities = self.sums().map(|sums| &sums.quantities);
+        quantities.map(Bar::of).collect()
+    }
+
+    /// How OEE in each of these compares with the report's.
+    pub fn oee_beside_report(&self) -> Vec<Ordering> {
+        let quantities = self.sums().map(|sums| &sums.quantities);
+        let reported = quantities.map(|q| ten_thousandths(q.effective, q.total));
+        let bars = self.bars().into_iter().zip(reported);
+        bars.map(|(bar, reported)| bar.parts[4].cmp(&reported))
+            .collect()
     }
 }

@@ -3,6 +3,7 @@
 use crate::oracle::Account;
 use crate::records::*;
 use crate::supplemental::Supplemental;
+use std::cmp::Ordering;
 use std::collections::{BTreeMap, BTreeSet};
 use std::fmt;
 
@@ -92,6 +93,8 @@ pub struct Tally {
     missing: [u64; 5],
     tied: u64,
     ties: BTreeMap<(usize, usize), u64>,
+    /// Those with an OEE below, at or above the report's in a bar.
+    oee: BTreeMap<Ordering, u64>,
     /// Of the calls for supplemental figures.
     pub supplemental: Verdicts,
     above_zero: u64,
@@ -109,7 +112,10 @@ impl Tally {
 
     /// The bars of a log, each class of them once.
     pub fn count_losses(&mut self, verdict: &Result<Account, Refusal>) {
-        let bars = verdict.as_ref().map_or(Vec::new(), Account::bars);
+        let Ok(account) = verdict else {
+            return;
+        };
+        let bars = account.bars();
         let missing: BTreeSet<usize> = bars.iter().map(|bar| bar.missing).collect();
         for missing in missing {
             self.missing[missing] += 1;
@@ -118,6 +124,9 @@ impl Tally {
         self.tied += u64::from(!ties.is_empty());
         for tie in ties {
             *self.ties.entry(tie).or_default() += 1;
+        }
+        for oee in BTreeSet::from_iter(account.oee_beside_report()) {
+            *self.oee.entry(oee).or_default() += 1;
         }
     }
 
@@ -150,14 +159,21 @@ impl Tally {
         *self.ties.get(&tie).unwrap_or(&0)
     }
 
-    /// What no bar met: so many missing, and so many of so many equal remainders that get one.
+    fn oee_that_is(&self, ordering: Ordering) -> u64 {
+        *self.oee.get(&ordering).unwrap_or(&0)
+    }
+
+    /// What no bar met: so many missing, so many of so many equal remainders that get one, and an OEE that is not the report's.
     pub fn never_met_in_losses(&self) -> Vec<String> {
         let missing = (0..5).filter(|missing| self.missing[*missing] == 0);
         let missing = missing.map(|missing| format!("{missing} missing"));
         let ties = TIED.into_iter().flat_map(ties);
         let ties = ties.filter(|tie| self.ties_of(*tie) == 0);
         let ties = ties.map(|(tied, getting)| format!("{getting} of {tied} tied"));
-        missing.chain(ties).collect()
+        let below = (self.oee_that_is(Ordering::Less) == 0).then_some("OEE below the report's");
+        let above = (self.oee_that_is(Ordering::Greater) == 0).then_some("OEE above the report's");
+        let oee = below.into_iter().chain(above).map(String::from);
+        missing.chain(ties).chain(oee).collect()
     }
 
     /// What no benchmarks met: the numbers of list 4, a refusal of the log, and four figures above 0.
@@ -222,7 +238,9 @@ impl Tally {
             let counts: Vec<u64> = ties(tied).map(|tie| self.ties_of(tie)).collect();
             text += &format!("{tied} tied, of which 1 and more get one: {counts:?} logs\n");
         }
-        text
+        let (below, above) = (Ordering::Less, Ordering::Greater);
+        let counts = [below, above].map(|ordering| self.oee_that_is(ordering));
+        text + &format!("OEE in a bar below and above the report's: {counts:?} logs\n")
     }
 
     /// The calls for supplemental figures.

@@ -4,9 +4,7 @@ use difftest::draft::Draft;
 use difftest::generator::runs::records;
 use difftest::generator::{make, Expected};
 use difftest::losses::{shares, Bar, WHOLE};
-use difftest::oracle::{
-    account, in_force, read, standard_of, ten_thousandths, Account, Log, Quantities,
-};
+use difftest::oracle::{account, in_force, read, standard_of, Account, Log, Quantities};
 use difftest::prng::Prng;
 use difftest::records::*;
 use difftest::tally::Tally;
@@ -522,7 +520,7 @@ fn shapes_of_standards(log: &Log, note: &mut impl FnMut(&str, bool)) {
     }
 }
 
-/// Every two parts of which the earlier wins a tie, and those that win by a little; whose bar has a tie; and OEE beside the report's.
+/// Every two parts of which the earlier wins a tie, and those that win by a little; and whose bar has a tie.
 fn shapes_of_bars(account: &Account, note: &mut impl FnMut(&str, bool)) {
     for sums in account.modules.iter().chain([&account.tool]) {
         let quantities = &sums.quantities;
@@ -540,9 +538,6 @@ fn shapes_of_bars(account: &Account, note: &mut impl FnMut(&str, bool)) {
             let little = more > less && (more - less) * 1_000_000 < total;
             note(&format!("part {one} a little above {other}"), little);
         }
-        let reported = ten_thousandths(quantities.effective, quantities.total);
-        note("OEE above the report's", parts[4] > u128::from(reported));
-        note("OEE below the report's", parts[4] < u128::from(reported));
     }
     let bars = account.bars();
     let tied: Vec<bool> = bars.iter().map(|bar| bar.tie.is_some()).collect();
@@ -757,8 +752,6 @@ fn every_shape_is_met() {
             "production without units",
             "units without good ones",
             "an exact half in the fifth place",
-            "OEE above the report's",
-            "OEE below the report's",
             "tie of the tool alone",
             "tie of some modules",
             "states of one time",

@@ -238,7 +238,7 @@ fn bench(period: u64, good: u64, scrapped: u64) -> Vec<u8> {
 fn a_tally_of_no_bars_misses_all() {
     let mut tally = Tally::default();
     let due = tally.never_met_in_losses();
-    assert_eq!(due.len(), 5 + 10);
+    assert_eq!(due.len(), 5 + 10 + 2);
     let mut missed = |log: &[u8]| {
         tally.count_losses(&account(log));
         tally.never_met_in_losses()
@@ -249,7 +249,14 @@ fn a_tally_of_no_bars_misses_all() {
         let due = due.iter().filter(|name| !met.contains(&name.as_str()));
         due.cloned().collect()
     };
-    assert_eq!(missed(&bench(10, 10, 0)), without(&["0 missing"]));
-    let thirds = ["0 missing", "1 missing", "1 of 3 tied"];
-    assert_eq!(missed(&bench(3, 1, 1)), without(&thirds));
+    let mut met = vec!["0 missing"];
+    assert_eq!(missed(&bench(10, 10, 0)), without(&met));
+    met.extend(["1 missing", "1 of 3 tied"]);
+    assert_eq!(missed(&bench(3, 1, 1)), without(&met));
+    // 312 and 1/2 of rate loss, 9,687 and 1/2 of OEE: reported are 9,688.
+    met.extend(["1 of 2 tied", "OEE below the report's"]);
+    assert_eq!(missed(&bench(32, 31, 0)), without(&met));
+    // 2,222 and 2/9, 3,333 and 3/9, 4,444 and 4/9.
+    met.push("OEE above the report's");
+    assert_eq!(missed(&bench(9, 4, 3)), without(&met));
 }
