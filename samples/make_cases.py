@@ -1,9 +1,9 @@
 #!/usr/bin/env python3
 """Makes the input of the program `cases` and what it must print: the edge cases of document 01, of R-1 and of R-5, the printed figures of 002 and
 of 003's worked example, a tool with a faster chamber, and inputs that are no log, as reports and through the calls for state times, quantities,
-doubles and losses; and R1-3 of 002, that tool and the refusals of benchmarks through the call for the supplemental figures. What each must give is written here
-from those papers: hours as 002 prints them, doubles and losses from exact fractions. The logs are written by the library, as make.py's are; of what they must
-give nothing is taken from it."""
+doubles and losses; and R1-3 of 002, that tool and the refusals of benchmarks through the call for the supplemental figures. What each must give is
+written here from those papers: hours as 002 prints them, doubles and losses from exact fractions. The logs are written by the library, as make.py's
+are; of what they must give nothing is taken from it."""
 
 import struct
 from fractions import Fraction

@@ -1,5 +1,5 @@
 // What the calls answer as seven numbers, and their comparison with those that are expected. An answer is 0 and six numbers: the state times in ms,
-// the five quantities in ms and 0, the bit patterns of the doubles, 2^64 - 1 where there is no base, the five losses and 0, or the four supplemental
+// the five quantities in ms and 0, the bit patterns of the doubles, 2^64 - 1 where there is no base, the four losses, OEE and 0, or the four supplemental
 // figures and twice 0. A refusal is its number, its list, its place and four times 0.
 ghost use Rattle.std.specs.Prelude.{◌≡◌, true, ℕ, ◌↔◌, ◌≤◌, ◌∷◌, List, to_bits, MatchResult};
 ghost use Rattle.std.specs.Float.{binary64};

@@ -1,4 +1,5 @@
--- The printed figure, by its definition, is the nearest whole number, a half going up, and at most 10,000 (1.0000); and two steps of times 100 come to it. Assumes nothing.
+-- The printed figure, by its definition, is the nearest whole number, a half going up, and at most 10,000 (1.0000); and two steps of times 100 come to the
+-- quotient rounded down and what is left, and these to the printed figure. Assumes nothing.
 use mathlib.Core.Path.{◌≡◌, sym, ap}
 use mathlib.Core.Logic.{inl, inr}
 use Prim.Native.Nat.{ℕ, zero, suc, ◌+◌, ◌*◌, ◌/◌, ◌%◌, ◌≤◌, ◌<◌}
@@ -81,8 +82,8 @@ module _ (n d : ℕ) where
       omega (arith, w, steps, div-add-mod' (10000 * n) d)
 
   -- ---- what is left then is less than half of the denominator, or not
-  pub half_not_reached : 0 < d → 10000 * n % d * 2 < d → 10000 * n / d ≡ rounded_of n d
-  half_not_reached D h = only (10000 * n / d) n d (omega (arith, div-add-mod' (10000 * n) d)) (omega (arith, div-add-mod' (10000 * n) d))
+  pub half_not_reached : 10000 * n % d * 2 < d → 10000 * n / d ≡ rounded_of n d
+  half_not_reached h = only (10000 * n / d) n d (omega (arith, div-add-mod' (10000 * n) d)) (omega (arith, div-add-mod' (10000 * n) d))
 
   pub half_reached : 0 < d → d ≤ 10000 * n % d * 2 → 10000 * n / d + 1 ≡ rounded_of n d
   half_reached D h =

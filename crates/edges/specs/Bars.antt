@@ -22,6 +22,6 @@ pub record Bars : Type 0 where
   -- 59, 59, 58, 58 and 58 of 73 are left, and four are missing: the last of the three that tie goes without, so OEE is 0.2054 here and 0.2055 in the report
   pub four_missing : losses_of (of_five 73 59 45 30 15) ≡ shares 1918 1918 2055 2055 2054
   pub four_missing_report : printed_of 15 73 ≡ Some 2055
-  -- one part of all
+  -- one part is the whole
   pub all_nonscheduled : losses_of (of_five 9 0 0 0 0) ≡ shares 10000 0 0 0 0
   pub all_effective : losses_of (of_five 9 9 9 9 9) ≡ shares 0 0 0 0 10000

@@ -1,6 +1,6 @@
 -- The shares make 10,000, and no other whole numbers that make 10,000 lie nearer to the exact shares in summed distance.
--- Between the remainders of those served and of those not there is a number t. Of one part, a share w other than v cannot bring its distance down by more than
--- (d - 2 t) (w - v), and over all parts that is 0, since both make 10,000.
+-- Between the remainders of those served and of those not there is a number t. A number w in place of a share v brings that part's distance, times d, down by at
+-- most (2 t - d) (w - v), and over all parts that is 0, since both make 10,000.
 -- Assumes nothing.
 use mathlib.Core.Path.{◌≡◌, refl, sym, ap, ap₂, ◌∙◌}
 use mathlib.Core.Logic.{inl, inr}
@@ -104,7 +104,7 @@ module _ (part : ℕ → ℕ) (d n : ℕ) (some : 0 < d) (whole : sum_below part
       ∙ ap (λ (z : ℕ). z * 10000) whole
       ∙ mul_comm d 10000
 
-  pub not-over : quotients ≤ 10000
+  not-over : quotients ≤ 10000
   not-over = le_of_mul-le-mul_right (omega (arith, all-exact)) some
 
   enough : missing part d n ≤ n
@@ -159,7 +159,7 @@ beside-printed part d n i some =
     let x = rounded_of (part i) d in
     let near : (f ≤ x) × (x ≤ f + 1) =
     elim (cases_lt (remainder part d i * 2) d) [
-      | inl l ↦ omega (arith, half_not_reached (part i) d some l)
+      | inl l ↦ omega (arith, half_not_reached (part i) d l)
       | inr l ↦ omega (arith, half_reached (part i) d some l)
     ] in
     beside f x (served (remainder part d) n (missing part d n) i) near.0 near.1
@@ -173,7 +173,7 @@ five f = omega arith
 abbrev listed : Losses → ℕ → ℕ
 listed s i = get_or (shares_of s) i 0
 
-pub whole-parts : (q : Quantities) → Ordered q → sum_below (part_of q) 5 ≡ q.total
+whole-parts : (q : Quantities) → Ordered q → sum_below (part_of q) 5 ≡ q.total
 whole-parts q o = five (part_of q) ∙ omega arith
 
 -- the five quotients are at most 10,000 together

@@ -43,7 +43,7 @@ count-le p zero = zero-le
 count-le p (suc n) = omega (arith, count-le p n, one-le (p n) true (λ e. refl))
 
 module _ (rest : ℕ → ℕ) where
-  -- ---- the sequence of service
+  -- ---- the sequence in which they are served
 
   larger : (i j : ℕ) → rest i < rest j → ahead_of rest i j ≡ true
   unfolding ahead_of
@@ -57,9 +57,9 @@ module _ (rest : ℕ → ℕ) where
   unfolding ahead_of
   tie i j e = rw (le-ltb (rest i) (rest j) (omega arith), eq-eqb (rest i) (rest j) e)
 
-  -- j before i: no smaller remainder, and where they tie j is the earlier
-  before : (i j : ℕ) → ahead_of rest i j ≡ true → (rest i ≤ rest j) × (rest j ≤ rest i → j < i)
-  before i j e = elim (cases_lt (rest i) (rest j)) [
+  -- j ahead of i: no smaller remainder, and where they tie j is the earlier
+  ahead : (i j : ℕ) → ahead_of rest i j ≡ true → (rest i ≤ rest j) × (rest j ≤ rest i → j < i)
+  ahead i j e = elim (cases_lt (rest i) (rest j)) [
     | inl l ↦ omega arith
     | inr k ↦ elim (cases_lt (rest j) (rest i)) [
       | inl g ↦ let z : true ≡ false = sym e ∙ smaller i j g in absurd (true≢false z)
@@ -67,8 +67,8 @@ module _ (rest : ℕ → ℕ) where
     ]
   ]
 
-  not-before : (i j : ℕ) → ahead_of rest i j ≡ false → (rest j ≤ rest i) × (rest i ≤ rest j → i ≤ j)
-  not-before i j e = elim (cases_lt (rest i) (rest j)) [
+  not-ahead : (i j : ℕ) → ahead_of rest i j ≡ false → (rest j ≤ rest i) × (rest i ≤ rest j → i ≤ j)
+  not-ahead i j e = elim (cases_lt (rest i) (rest j)) [
     | inl l ↦ let z : true ≡ false = sym (larger i j l) ∙ e in absurd (true≢false z)
     | inr k ↦ elim (cases_lt (rest j) (rest i)) [
       | inl g ↦ omega arith
@@ -76,22 +76,22 @@ module _ (rest : ℕ → ℕ) where
     ]
   ]
 
-  is-before : (i j : ℕ) → rest i ≤ rest j → (rest j ≤ rest i → j < i) → ahead_of rest i j ≡ true
-  is-before i j l h = elim (cases_lt (rest i) (rest j)) [
+  is-ahead : (i j : ℕ) → rest i ≤ rest j → (rest j ≤ rest i → j < i) → ahead_of rest i j ≡ true
+  is-ahead i j l h = elim (cases_lt (rest i) (rest j)) [
     | inl g ↦ larger i j g
     | inr g ↦ tie i j (omega arith) ∙ lt-ltb j i (h g)
   ]
 
   in-turn : (i j k : ℕ) → ahead_of rest i j ≡ true → ahead_of rest j k ≡ true → ahead_of rest i k ≡ true
   in-turn i j k p q =
-      let a = before i j p in
-      let b = before j k q in
-      is-before i k (omega arith) (λ h. omega (arith, a.1 (omega arith), b.1 (omega arith)))
+      let a = ahead i j p in
+      let b = ahead j k q in
+      is-ahead i k (omega arith) (λ h. omega (arith, a.1 (omega arith), b.1 (omega arith)))
 
   not-itself : (i : ℕ) → ahead_of rest i i ≡ false
   not-itself i = tie i i refl ∙ le-ltb i i (omega arith)
 
-  -- ---- how many are served before a part
+  -- ---- how many are ahead of a part
 
   abbrev rank : ℕ → ℕ → ℕ
   rank n i = count (ahead_of rest i) n
@@ -104,7 +104,7 @@ module _ (rest : ℕ → ℕ) where
       rw (counted, counted) (sum-lt _ _ n j l (rw (not-itself j, e) (omega arith)) (λ k h. one-le (ahead_of rest j k) (ahead_of rest i k) (in-turn i j k e)))
 
   -- ---- just k are served
-  -- one part more, n, behind whose c betters it stands: where k ≤ c it gets none and alters nothing, else it takes one
+  -- one part more, n: where at least k are ahead of it it gets none and alters nothing, else it takes one
 
   few : (n k i : ℕ) → k ≤ rank n n → ltb (one (ahead_of rest i n) + rank n i) k ≡ ltb (rank n i) k
   few n k i l = go (ahead_of rest i n) refl
@@ -122,8 +122,8 @@ module _ (rest : ℕ → ℕ) where
         | inr g ↦ le-ltb (1 + rank n i) (suc k) (omega arith) ∙ sym (le-ltb (rank n i) k g)
       ]
       go false e =
-          let f = not-before i n e in
-          let p : ahead_of rest n i ≡ true = is-before n i f.0 (λ h. l) in
+          let f = not-ahead i n e in
+          let p : ahead_of rest n i ≡ true = is-ahead n i f.0 (λ h. l) in
           let h = rank-lt n n i l p in
           lt-ltb (0 + rank n i) (suc k) (omega arith) ∙ sym (lt-ltb (rank n i) k (omega arith))
 

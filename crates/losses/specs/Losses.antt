@@ -9,7 +9,7 @@ use Rattle.losses.specs.declared.Losses.{Losses}
 
 -- ---- the parts 0, 1, .. , n - 1 of a total, in ten-thousandths of it
 
--- a part's quotient rounded down, and its remainder
+-- 10,000 times a part over the total: the quotient rounded down, and what is left
 abbrev pub quotient : (ℕ → ℕ) → ℕ → ℕ → ℕ
 quotient part total i = 10000 * part i / total
 
@@ -41,9 +41,11 @@ share part total n i = quotient part total i + cond (served (remainder part tota
 abbrev pub parts_of : Quantities → List ℕ
 parts_of q = (q.total - q.uptime) ∷ (q.uptime - q.production) ∷ (q.production - q.actual) ∷ (q.actual - q.effective) ∷ q.effective ∷ []
 
+-- the i-th of the five, from 0
 abbrev pub part_of : Quantities → ℕ → ℕ
 part_of q i = get_or (parts_of q) i 0
 
+-- of each of the five its share of total time
 unfoldable pub losses_of : Quantities → Losses
 unfolding share
 losses_of q =

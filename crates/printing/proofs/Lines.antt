@@ -17,7 +17,7 @@ use Rattle.report.specs.Report.{decimal, places, shown, short, tool, joined}
 use Rattle.report.proofs.Lines.{ends-append, no-ends, shown-inside, short-inside, decimal-inside, behind, table_lines, table_last}
 use Rattle.printing.specs.declared.Table.{Table}
 use Rattle.printing.specs.declared.Table.TheVariants.{Times, Quantities as OfQuantities, Losses as OfLosses}
-use Rattle.printing.specs.Tables.{number, numbers, figure, figures, heading_of, told, line_in, tool_in, table_text}
+use Rattle.printing.specs.Tables.{number, numbers, fraction, bar, heading_of, told, line_in, tool_in, table_text}
 
 number-inside : (v : ℕ) → ends (number v) ≡ 0
 unfolding number ends
@@ -32,24 +32,24 @@ numbers-line : (vs : List ℕ) → Line (numbers vs)
 unfolding numbers
 numbers-line vs = record { inside = joined (λ k. number (get_or vs k 0)) (length vs); ending = refl; no_other = joined-inside (λ k. number (get_or vs k 0)) (length vs) (λ k. number-inside (get_or vs k 0)) }
 
--- five figures, as a line
-figure-inside : (p : ℕ) → ends (figure p) ≡ 0
-unfolding figure shown ends
-figure-inside p = no-ends (ascii " ") (places p) refl (shown-inside (Some p))
+-- a bar, as a line
+fraction-inside : (p : ℕ) → ends (fraction p) ≡ 0
+unfolding fraction shown ends
+fraction-inside p = no-ends (ascii " ") (places p) refl (shown-inside (Some p))
 
-figures-line : (s : Losses) → Line (figures s)
-unfolding figures ends
-figures-line s =
+bar-line : (s : Losses) → Line (bar s)
+unfolding bar ends
+bar-line s =
     record {
-      inside = figure s.availability ++ figure s.operational ++ figure s.rate ++ figure s.quality ++ figure s.oee;
+      inside = fraction s.availability ++ fraction s.operational ++ fraction s.rate ++ fraction s.quality ++ fraction s.oee;
       ending = refl;
-      no_other = simp (ends-append, figure-inside);
+      no_other = simp (ends-append, fraction-inside);
     }
 
 told-line : (t : Table) (u : StateTimes) (q : Quantities) → Line (told t u q)
 told-line Times u q = numbers-line (times_of u)
 told-line OfQuantities u q = numbers-line (quantities_of q)
-told-line OfLosses u q = figures-line (losses_of q)
+told-line OfLosses u q = bar-line (losses_of q)
 
 heading-line : (t : Table) → Line (heading_of t)
 unfolding heading_of ends

@@ -1,4 +1,4 @@
--- The numbers and the figures of a line: how many bytes they take. Assumes nothing.
+-- The numbers of a line, and a bar: how many bytes they take. Assumes nothing.
 use mathlib.Core.Path.{◌≡◌, refl}
 use mathlib.Core.List.{List, [], ◌∷◌}
 use Prim.Native.Nat.{ℕ, zero, suc, ◌+◌, ◌*◌, ◌^◌, ◌≤◌, ◌<◌}
@@ -9,7 +9,7 @@ use Rattle.report.specs.Text.{ascii}
 use Rattle.report.specs.Report.{decimal, places, joined}
 use Rattle.report.proofs.Decimals.{decimal-length}
 use Rattle.report.proofs.Tables.{joined_longest}
-use Rattle.printing.specs.Tables.{number, numbers, figure, figures}
+use Rattle.printing.specs.Tables.{number, numbers, fraction, bar}
 
 pub number-length : (v : ℕ) → length (number v) ≡ length (decimal v) + 1
 unfolding number
@@ -44,7 +44,7 @@ numbers-longest d vs h =
       joined_longest (nth vs) (d + 2) (length vs) (λ k l. omega (arith, number-length (get_or vs k 0), decimal-length d (get_or vs k 0) (below_at (10 ^ suc d) vs h k l))),
     )
 
--- five figures take as many bytes whatever they are
-pub figures_length : (s : Losses) → length (figures s) ≡ 36
-unfolding figures figure places
-figures_length s = refl
+-- a bar takes as many bytes whatever its parts are
+pub bar_length : (s : Losses) → length (bar s) ≡ 36
+unfolding bar fraction places
+bar_length s = refl

@@ -19,7 +19,7 @@ use Rattle.report.proofs.Tables.{joined_longest, table_length}
 use Rattle.printing.specs.declared.Table.{Table}
 use Rattle.printing.specs.declared.Table.TheVariants.{Times, Quantities as OfQuantities, Losses as OfLosses}
 use Rattle.losses.specs.Losses.{losses_of}
-use Rattle.printing.proofs.Numbers.{Below, numbers-longest, figures_length}
+use Rattle.printing.proofs.Numbers.{Below, numbers-longest, bar_length}
 use Rattle.printing.specs.Tables.{heading_of, told, line_in, tool_in, table_text}
 
 -- ---- a module's line and the tool's
@@ -62,7 +62,7 @@ module _ (l : Log) (ok : Consistent l) where
       each : (k : ℕ) → time_in l k m < 10 ^ 11
       each k = omega (arith, ok.short, ok.times k m h)
   of_module_lem OfQuantities m h = omega (arith, numbers-longest 10 (quantities_of (of_module l m)) (five-below (10 ^ 11) (of_module l m) (ok.each m h) (omega (arith, ok.short))))
-  of_module_lem OfLosses m h = omega (arith, figures_length (losses_of (of_module l m)))
+  of_module_lem OfLosses m h = omega (arith, bar_length (losses_of (of_module l m)))
 
   of_tool_lem : (t : Table) → length (told t (tool_times l) (of_tool l)) ≤ 85
   of_tool_lem Times = numbers-longest 12 (times_of (tool_times l)) (each 0, (each 1, (each 2, (each 3, (each 4, (each 5, tt))))))
@@ -70,7 +70,7 @@ module _ (l : Log) (ok : Consistent l) where
       each : (k : ℕ) → sum_below (time_in l k) l.modules < 10 ^ 13
       each k = omega (arith, tool_total l ok, sum-le (time_in l k) (λ m. l.period) l.modules (λ m h. ok.times k m h))
   of_tool_lem OfQuantities = omega (arith, numbers-longest 12 (quantities_of (of_tool l)) (five-below (10 ^ 13) (of_tool l) (tool_ordered l ok) (omega (arith, tool_total l ok))))
-  of_tool_lem OfLosses = omega (arith, figures_length (losses_of (of_tool l)))
+  of_tool_lem OfLosses = omega (arith, bar_length (losses_of (of_tool l)))
 
   module-longest : (t : Table) (m : ℕ) → m < l.modules → length (line_in t l m) ≤ 75
   module-longest t m h =

@@ -22,15 +22,15 @@ unfoldable pub numbers : List ℕ → List ℕ
 unfolding joined number
 numbers vs = joined (λ k. number (get_or vs k 0)) (length vs) ++ ascii "\n"
 
--- a space and a figure of four places
-unfoldable pub figure : ℕ → List ℕ
+-- a space and ten-thousandths with four places
+unfoldable pub fraction : ℕ → List ℕ
 unfolding places
-figure p = ascii " " ++ places p
+fraction p = ascii " " ++ places p
 
--- the five losses, and the line's end
-unfoldable pub figures : Losses → List ℕ
-unfolding figure
-figures s = figure s.availability ++ figure s.operational ++ figure s.rate ++ figure s.quality ++ figure s.oee ++ ascii "\n"
+-- the four losses and OEE, and the line's end
+unfoldable pub bar : Losses → List ℕ
+unfolding fraction
+bar s = fraction s.availability ++ fraction s.operational ++ fraction s.rate ++ fraction s.quality ++ fraction s.oee ++ ascii "\n"
 
 -- the first line
 unfoldable pub heading_of : Table → List ℕ
@@ -42,15 +42,15 @@ heading_of OfLosses = ascii "module availability operational rate quality oee\n"
 abbrev pub told : Table → StateTimes → Quantities → List ℕ
 told Times t q = numbers (times_of t)
 told OfQuantities t q = numbers (quantities_of q)
-told OfLosses t q = figures (losses_of q)
+told OfLosses t q = bar (losses_of q)
 
 -- a module's line, by its number, and the tool's
 unfoldable pub line_in : Table → Log → ℕ → List ℕ
-unfolding short numbers figures losses_of
+unfolding short numbers bar losses_of
 line_in t l m = short m ++ told t (module_times l m) (of_module l m)
 
 unfoldable pub tool_in : Table → Log → List ℕ
-unfolding tool numbers figures losses_of
+unfolding tool numbers bar losses_of
 tool_in t l = tool ++ told t (tool_times l) (of_tool l)
 
 -- the table of a log

@@ -1,5 +1,5 @@
-// What the program prints of a log beside its report: the tables of state times, of quantities and of losses, and why a log is refused, in words. No public
-// call has a `requires`. A buffer and a place: see `filling`.
+// What the program prints of a log beside its report: the tables of state times, of quantities and of losses, and why a log is refused, in
+// words. No public call has a `requires`. A buffer and a place: see `filling`.
 #![tactic(auto)]
 
 ghost use Rattle.std.specs.Prelude.{◌≡◌, ◌+◌, ◌<◌, ◌≤◌, length};
@@ -10,7 +10,7 @@ ghost use Rattle.losses.specs.Losses.{together};
 ghost use Rattle.filling.specs.Buffer.{Put, AtFront};
 ghost use Rattle.report.specs.Report.{joined};
 ghost use Rattle.reporting.specs.Reports.{Prints};
-ghost use Rattle.printing.specs.Tables.{number, numbers, figure, figures, heading_of, told, line_in, tool_in, table_text};
+ghost use Rattle.printing.specs.Tables.{number, numbers, fraction, bar, heading_of, told, line_in, tool_in, table_text};
 ghost use Rattle.printing.specs.Words.{words_by, in_words};
 
 use e79::Quantities;
@@ -18,8 +18,8 @@ use judging::Account;
 use losses::Losses;
 use rules::{Refusal, StateTimes};
 
-// What a table tells of each module and of the tool: the six state times, or the five quantities, in ms, or the five losses, with four places. An enum and no
-// closure: a caller names its table, and by that name the table's text is defined.
+// What a table tells of each module and of the tool: the six state times, or the five quantities, in ms, or the four losses and OEE, with four
+// places. An enum and no closure: a caller names its table, and by that name the table's text is defined.
 #[derive(Clone, Copy)]
 pub enum Table {
     Times,
@@ -63,33 +63,33 @@ fn put_numbers(buf: &mut [u8], at: usize, values: &[u64]) -> usize
     filling::put_text(buf, next, b"\n")
 }
 
-// A space and a figure of four places.
-fn put_figure(buf: &mut [u8], at: usize, p: u64) -> usize
+// A space and ten-thousandths with four places.
+fn put_fraction(buf: &mut [u8], at: usize, p: u64) -> usize
     requires { (p ≤ 10000) × (at + 7 ≤ length buf.old) }
-    ensures put { Put (figure p) buf.old at result buf.new }
+    ensures put { Put (fraction p) buf.old at result buf.new }
     ensures size { result ≡ at + 7 }
 {
     let space = filling::put_text(buf, at, b" ");
     report::put_places(buf, space, p)
 }
 
-// The five losses and the line's end. Each name is the place behind that loss.
-#[tactic(auto, using(crate::proofs::Numbers::figures_length))]
-fn put_figures(buf: &mut [u8], at: usize, s: Losses) -> usize
+// The four losses and OEE, and the line's end. Each name is the place behind that part.
+#[tactic(auto, using(crate::proofs::Numbers::bar_length))]
+fn put_bar(buf: &mut [u8], at: usize, s: Losses) -> usize
     requires adds_up { together s ≡ 10000 }
-    requires in_bounds { at + length (figures s) ≤ length buf.old }
-    ensures { Put (figures s) buf.old at result buf.new }
+    requires in_bounds { at + length (bar s) ≤ length buf.old }
+    ensures { Put (bar s) buf.old at result buf.new }
 {
-    let availability = put_figure(buf, at, s.availability);
-    let operational = put_figure(buf, availability, s.operational);
-    let rate = put_figure(buf, operational, s.rate);
-    let quality = put_figure(buf, rate, s.quality);
-    let oee = put_figure(buf, quality, s.oee);
+    let availability = put_fraction(buf, at, s.availability);
+    let operational = put_fraction(buf, availability, s.operational);
+    let rate = put_fraction(buf, operational, s.rate);
+    let quality = put_fraction(buf, rate, s.quality);
+    let oee = put_fraction(buf, quality, s.oee);
     filling::put_text(buf, oee, b"\n")
 }
 
-// What a table tells, and the line's end. The caller owes the room, and that the quantities are ordered. The one switch on a table, beside `heading`: six numbers,
-// or five, or five figures, so no closure of one type.
+// What a table tells, and the line's end. The caller owes the room, and that the quantities are ordered. The one switch on a table, beside
+// `heading`: six numbers, or five, or a bar, so no closure of one type.
 fn put_told(buf: &mut [u8], at: usize, table: Table, t: StateTimes, q: Quantities) -> usize
     requires ordered { Ordered q }
     requires in_bounds { at + length (told table t q) ≤ length buf.old }
@@ -98,7 +98,7 @@ fn put_told(buf: &mut [u8], at: usize, table: Table, t: StateTimes, q: Quantitie
     match table {
         Table::Times => put_numbers(buf, at, &<[u64; 6]>::from(t)),
         Table::Quantities => put_numbers(buf, at, &<[u64; 5]>::from(q)),
-        Table::Losses => put_figures(buf, at, losses::losses_of_ordered(q)),
+        Table::Losses => put_bar(buf, at, losses::losses_of_ordered(q)),
     }
 }
 

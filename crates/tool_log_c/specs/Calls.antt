@@ -67,7 +67,7 @@ TellsToolQuantities s before r after refusal =
     let q = of_tool (decode s) in
     TellsNumbers (verdict s) (quantities_of q) before (Ordered q) (OfLog s) r after refusal
 
--- the five losses of module m, which make 10,000, and no other five that do lie nearer
+-- the four losses and OEE of module m, which make 10,000, and no other five that do lie nearer
 abbrev pub TellsModuleLosses : List ℕ → ℕ → List ℕ → ℕ → List ℕ → List ℕ → Type 0
 TellsModuleLosses s m before r after refusal =
     let q = of_module (decode s) m in

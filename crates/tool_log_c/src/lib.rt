@@ -104,7 +104,7 @@ pub extern "C" fn tl_tool_figures(
     telling::tell_figures(tool_log::tool_figures(log), figures, based, refusal)
 }
 
-// The five losses of module m, in ten-thousandths that make 10,000.
+// The four losses and OEE of module m, in ten-thousandths that make 10,000.
 #[unsafe(no_mangle)]
 pub extern "C" fn tl_module_losses(
     log: &[u8],

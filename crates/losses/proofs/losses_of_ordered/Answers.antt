@@ -12,7 +12,11 @@ overflow_sub-missing c =
 
 pub returns-clause-losses : goal.returns-clause-losses
 unfolding losses_of share served
-returns-clause-losses c = rw (c.one_more.ensures, c.one_more-2.ensures, c.one_more-3.ensures, c.one_more-4.ensures, c.one_more-5.ensures, c.divided-availability.ensures.0, c.divided-operational.ensures.0, c.divided-rate.ensures.0, c.divided-quality.ensures.0, c.divided-oee.ensures.0, c.divided-availability.ensures.1, c.divided-operational.ensures.1, c.divided-rate.ensures.1, c.divided-quality.ensures.1, c.divided-oee.ensures.1, five-missing c.args.q) refl
+returns-clause-losses c =
+    rw (c.one_more.ensures, c.one_more-2.ensures, c.one_more-3.ensures, c.one_more-4.ensures, c.one_more-5.ensures)
+    (rw (c.divided-availability.ensures.0, c.divided-operational.ensures.0, c.divided-rate.ensures.0, c.divided-quality.ensures.0, c.divided-oee.ensures.0)
+    (rw (c.divided-availability.ensures.1, c.divided-operational.ensures.1, c.divided-rate.ensures.1, c.divided-quality.ensures.1, c.divided-oee.ensures.1)
+    (rw (five-missing c.args.q) refl)))
 
 pub returns-clause-adds_up : goal.returns-clause-adds_up
 returns-clause-adds_up c = rw (returns-clause-losses c) (adds_up c.args.q c.requires)
