@@ -187,6 +187,13 @@ def _ask(function, log, *arguments) -> None:
         raise Refused(*refusal)
 
 
+def _numbers(answer, array, function, log, *arguments):
+    """The answer of the whole numbers that a function puts into an array."""
+    numbers = array()
+    _ask(function, log, *arguments, ctypes.byref(numbers))
+    return answer(*numbers)
+
+
 # ---- what a dashboard calls
 
 
@@ -226,27 +233,19 @@ def module_count(log) -> int:
 
 
 def module_state_times(log, module: int) -> StateTimes:
-    times = _Times()
-    _ask(_module_state_times, log, _module(module), ctypes.byref(times))
-    return StateTimes(*times)
+    return _numbers(StateTimes, _Times, _module_state_times, log, _module(module))
 
 
 def tool_state_times(log) -> StateTimes:
-    times = _Times()
-    _ask(_tool_state_times, log, ctypes.byref(times))
-    return StateTimes(*times)
+    return _numbers(StateTimes, _Times, _tool_state_times, log)
 
 
 def module_quantities(log, module: int) -> Quantities:
-    quantities = _Quantities()
-    _ask(_module_quantities, log, _module(module), ctypes.byref(quantities))
-    return Quantities(*quantities)
+    return _numbers(Quantities, _Quantities, _module_quantities, log, _module(module))
 
 
 def tool_quantities(log) -> Quantities:
-    quantities = _Quantities()
-    _ask(_tool_quantities, log, ctypes.byref(quantities))
-    return Quantities(*quantities)
+    return _numbers(Quantities, _Quantities, _tool_quantities, log)
 
 
 def _as_figures(figures, based) -> Figures:
@@ -266,22 +265,17 @@ def tool_figures(log) -> Figures:
 
 
 def module_losses(log, module: int) -> Losses:
-    losses = _Losses()
-    _ask(_module_losses, log, _module(module), ctypes.byref(losses))
-    return Losses(*losses)
+    return _numbers(Losses, _Losses, _module_losses, log, _module(module))
 
 
 def tool_losses(log) -> Losses:
-    losses = _Losses()
-    _ask(_tool_losses, log, ctypes.byref(losses))
-    return Losses(*losses)
+    return _numbers(Losses, _Losses, _tool_losses, log)
 
 
 def supplemental(log, benchmarks) -> Supplemental:
     """The supplemental figures of the tool. Benchmarks are 14 bytes for each standard of the log, in the standards' sequence: see pack_benchmarks."""
-    benchmarks, figures = _bytes(benchmarks), _Supplemental()
-    _ask(_supplemental, log, benchmarks, len(benchmarks), ctypes.byref(figures))
-    return Supplemental(*figures)
+    benchmarks = _bytes(benchmarks)
+    return _numbers(Supplemental, _Supplemental, _supplemental, log, benchmarks, len(benchmarks))
 
 
 def _benchmark(**values) -> bytes:

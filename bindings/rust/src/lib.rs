@@ -188,6 +188,13 @@ fn answered<T>(flag: u32, refusal: [u64; 3], answer: T) -> Result<T, Refusal> {
     }
 }
 
+// The whole numbers that a function puts into an array, or why it refuses.
+fn numbers<const N: usize>(call: impl FnOnce(&mut [u64; N], &mut [u64; 3]) -> u32) -> Result<[u64; N], Refusal> {
+    let (mut numbers, mut refusal) = ([0; N], [0; 3]);
+    let flag = call(&mut numbers, &mut refusal);
+    answered(flag, refusal, numbers)
+}
+
 /// Whether the log is accepted and its report fits `room` bytes.
 pub fn examine(log: &[u8], room: usize) -> Result<(), Refusal> {
     let mut refusal = [0; 3];
@@ -217,40 +224,28 @@ pub fn module_count(log: &[u8]) -> Result<usize, Refusal> {
     Ok((0..64).take_while(|&m| module_state_times(log, m).is_ok()).count())
 }
 
-fn state_times(
-    flag: u32,
-    [productive, standby, engineering, scheduled_down, unscheduled_down, nonscheduled]: [u64; 6],
-    refusal: [u64; 3],
-) -> Result<StateTimes, Refusal> {
-    answered(flag, refusal, StateTimes { productive, standby, engineering, scheduled_down, unscheduled_down, nonscheduled })
+fn state_times([productive, standby, engineering, scheduled_down, unscheduled_down, nonscheduled]: [u64; 6]) -> StateTimes {
+    StateTimes { productive, standby, engineering, scheduled_down, unscheduled_down, nonscheduled }
 }
 
 pub fn module_state_times(log: &[u8], module: usize) -> Result<StateTimes, Refusal> {
-    let (mut times, mut refusal) = ([0; 6], [0; 3]);
-    let flag = unsafe { c::tl_module_state_times(log.as_ptr(), log.len(), module, &mut times, &mut refusal) };
-    state_times(flag, times, refusal)
+    numbers(|times, refusal| unsafe { c::tl_module_state_times(log.as_ptr(), log.len(), module, times, refusal) }).map(state_times)
 }
 
 pub fn tool_state_times(log: &[u8]) -> Result<StateTimes, Refusal> {
-    let (mut times, mut refusal) = ([0; 6], [0; 3]);
-    let flag = unsafe { c::tl_tool_state_times(log.as_ptr(), log.len(), &mut times, &mut refusal) };
-    state_times(flag, times, refusal)
+    numbers(|times, refusal| unsafe { c::tl_tool_state_times(log.as_ptr(), log.len(), times, refusal) }).map(state_times)
 }
 
-fn quantities(flag: u32, [total, uptime, production, actual, effective]: [u64; 5], refusal: [u64; 3]) -> Result<Quantities, Refusal> {
-    answered(flag, refusal, Quantities { total, uptime, production, actual, effective })
+fn quantities([total, uptime, production, actual, effective]: [u64; 5]) -> Quantities {
+    Quantities { total, uptime, production, actual, effective }
 }
 
 pub fn module_quantities(log: &[u8], module: usize) -> Result<Quantities, Refusal> {
-    let (mut numbers, mut refusal) = ([0; 5], [0; 3]);
-    let flag = unsafe { c::tl_module_quantities(log.as_ptr(), log.len(), module, &mut numbers, &mut refusal) };
-    quantities(flag, numbers, refusal)
+    numbers(|quantities, refusal| unsafe { c::tl_module_quantities(log.as_ptr(), log.len(), module, quantities, refusal) }).map(quantities)
 }
 
 pub fn tool_quantities(log: &[u8]) -> Result<Quantities, Refusal> {
-    let (mut numbers, mut refusal) = ([0; 5], [0; 3]);
-    let flag = unsafe { c::tl_tool_quantities(log.as_ptr(), log.len(), &mut numbers, &mut refusal) };
-    quantities(flag, numbers, refusal)
+    numbers(|quantities, refusal| unsafe { c::tl_tool_quantities(log.as_ptr(), log.len(), quantities, refusal) }).map(quantities)
 }
 
 fn figures(flag: u32, doubles: [f64; 6], based: [u8; 4], refusal: [u64; 3]) -> Result<Figures, Refusal> {
@@ -272,63 +267,53 @@ pub fn tool_figures(log: &[u8]) -> Result<Figures, Refusal> {
     figures(flag, doubles, based, refusal)
 }
 
-fn losses(flag: u32, [availability, operational, rate, quality, oee]: [u64; 5], refusal: [u64; 3]) -> Result<Losses, Refusal> {
-    answered(flag, refusal, Losses { availability, operational, rate, quality, oee })
+fn losses([availability, operational, rate, quality, oee]: [u64; 5]) -> Losses {
+    Losses { availability, operational, rate, quality, oee }
 }
 
 pub fn module_losses(log: &[u8], module: usize) -> Result<Losses, Refusal> {
-    let (mut parts, mut refusal) = ([0; 5], [0; 3]);
-    let flag = unsafe { c::tl_module_losses(log.as_ptr(), log.len(), module, &mut parts, &mut refusal) };
-    losses(flag, parts, refusal)
+    numbers(|losses, refusal| unsafe { c::tl_module_losses(log.as_ptr(), log.len(), module, losses, refusal) }).map(losses)
 }
 
 pub fn tool_losses(log: &[u8]) -> Result<Losses, Refusal> {
-    let (mut parts, mut refusal) = ([0; 5], [0; 3]);
-    let flag = unsafe { c::tl_tool_losses(log.as_ptr(), log.len(), &mut parts, &mut refusal) };
-    losses(flag, parts, refusal)
+    numbers(|losses, refusal| unsafe { c::tl_tool_losses(log.as_ptr(), log.len(), losses, refusal) }).map(losses)
 }
 
 /// The supplemental figures of the tool. Benchmarks are 14 bytes for each standard of the log, in the standards' sequence: reference, optimized and
 /// value-added time in ms a unit and total effective units, 27 bits each, and 4 spare bits.
 pub fn supplemental(log: &[u8], benchmarks: &[u8]) -> Result<Supplemental, Refusal> {
-    let (mut figures, mut refusal) = ([0; 4], [0; 3]);
-    let flag = unsafe { c::tl_supplemental(log.as_ptr(), log.len(), benchmarks.as_ptr(), benchmarks.len(), &mut figures, &mut refusal) };
-    let [reference, optimized, value_added, total_effective_units] = figures;
-    answered(flag, refusal, Supplemental { reference, optimized, value_added, total_effective_units })
+    let [reference, optimized, value_added, total_effective_units] =
+        numbers(|figures, refusal| unsafe { c::tl_supplemental(log.as_ptr(), log.len(), benchmarks.as_ptr(), benchmarks.len(), figures, refusal) })?;
+    Ok(Supplemental { reference, optimized, value_added, total_effective_units })
 }
 
-// Where the record ends, or why it was not added. The library's position is within the buffer, so it is a usize.
-fn position(flag: u32, next: [u64; 1], refusal: [u64; 3]) -> Result<usize, Refusal> {
-    answered(flag, refusal, next[0] as usize)
+// Where the record ends. The library's position is within the buffer, so it is a usize.
+fn position([next]: [u64; 1]) -> usize {
+    next as usize
 }
 
 /// Adds a header at a position of the buffer and answers the position behind it. Where a value does not fit its field, or else the record the buffer,
 /// it is refused and no byte changes. What the values mean is left to [`finish_log`]. So it is with the other three; a [`Writer`] keeps the position.
 pub fn put_header(buf: &mut [u8], at: usize, period: u64, modules: u64, states: u64, standards: u64, units: u64) -> Result<usize, Refusal> {
-    let (mut next, mut refusal) = ([0], [0; 3]);
-    let flag = unsafe { c::tl_put_header(buf.as_mut_ptr(), buf.len(), at, period, modules, states, standards, units, &mut next, &mut refusal) };
-    position(flag, next, refusal)
+    numbers(|next, refusal| unsafe { c::tl_put_header(buf.as_mut_ptr(), buf.len(), at, period, modules, states, standards, units, next, refusal) })
+        .map(position)
 }
 
 /// Adds a state record, as [`put_header`] does a header.
 pub fn put_state(buf: &mut [u8], at: usize, module: u64, code: u64, time: u64) -> Result<usize, Refusal> {
-    let (mut next, mut refusal) = ([0], [0; 3]);
-    let flag = unsafe { c::tl_put_state(buf.as_mut_ptr(), buf.len(), at, module, code, time, &mut next, &mut refusal) };
-    position(flag, next, refusal)
+    numbers(|next, refusal| unsafe { c::tl_put_state(buf.as_mut_ptr(), buf.len(), at, module, code, time, next, refusal) }).map(position)
 }
 
 /// Adds a standard, as [`put_header`] does a header.
 pub fn put_standard(buf: &mut [u8], at: usize, module: u64, recipe: u64, start: u64, theoretical: u64) -> Result<usize, Refusal> {
-    let (mut next, mut refusal) = ([0], [0; 3]);
-    let flag = unsafe { c::tl_put_standard(buf.as_mut_ptr(), buf.len(), at, module, recipe, start, theoretical, &mut next, &mut refusal) };
-    position(flag, next, refusal)
+    numbers(|next, refusal| unsafe { c::tl_put_standard(buf.as_mut_ptr(), buf.len(), at, module, recipe, start, theoretical, next, refusal) })
+        .map(position)
 }
 
 /// Adds a unit record, as [`put_header`] does a header.
 pub fn put_unit(buf: &mut [u8], at: usize, module: u64, recipe: u64, time: u64, actual: u64, effective: u64) -> Result<usize, Refusal> {
-    let (mut next, mut refusal) = ([0], [0; 3]);
-    let flag = unsafe { c::tl_put_unit(buf.as_mut_ptr(), buf.len(), at, module, recipe, time, actual, effective, &mut next, &mut refusal) };
-    position(flag, next, refusal)
+    numbers(|next, refusal| unsafe { c::tl_put_unit(buf.as_mut_ptr(), buf.len(), at, module, recipe, time, actual, effective, next, refusal) })
+        .map(position)
 }
 
 /// Whether the bytes before a position are a log that is accepted. Bytes from there on are not looked at.
