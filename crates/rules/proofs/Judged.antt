@@ -1,5 +1,5 @@
 -- Each unit record of an accepted log is judged by just one standard. So what is summed over the unit records may be summed over the standards: judged units
--- times their standards' times make the theoretical time of all modules.
+-- make the units of the log, and times their standards' times the theoretical time of all modules.
 -- Assumes nothing.
 use mathlib.Core.Path.{◌≡◌, refl, sym, ap, ap₂, ◌∙◌}
 use mathlib.Core.Bool.{cond, true, false, not}
@@ -20,6 +20,7 @@ use Rattle.rules.specs.declared.Ground.TheVariants.{Spare, StrayModule, Outside,
 use Rattle.rules.specs.declared.LogList.TheVariants.{Units}
 use Rattle.rules.specs.Grounds.{ground, in_turn}
 use Rattle.rules.specs.Theoretical.{in_force, For, Answers, time_of, credit, theoretical_time, is_at, judged_by, units_judged}
+use Rattle.rules.specs.Credited.{units_of}
 use Rattle.rules.specs.Quantities.{sum_below}
 use Rattle.rules.specs.RecordGrounds.{is_none, unit_ground, unit_grounds}
 use Rattle.rules.proofs.Booleans.{false-true}
@@ -91,6 +92,15 @@ module _ (at : ℕ → Standard) (n : ℕ) where
       same i (yes q) = rw (eq-eqb p.index i q, ← q, f.same)
       same i (no ne) = rw (ne_eqb p.index i ne) (zero-mul (at i).theoretical)
 
+  one_judge : (m recipe time a : ℕ) (o : Option Placed) → Answers at n m recipe time o → is_none o ≡ false → sum_below (λ i. cond (is_at i o) a 0) n ≡ a
+  one_judge m recipe time a none f e = let z : ◌≡◌ {A = ℕ} 0 1 = cc in absurd (omega arith)
+  one_judge m recipe time a (some p) f e = once a p.index n f.listed
+
+  -- what no standard has for its index judges nothing
+  judge-listed : (m recipe time i a : ℕ) (o : Option Placed) → Answers at n m recipe time o → n ≤ i → cond (is_at i o) a 0 ≡ 0
+  judge-listed m recipe time i a none f h = refl
+  judge-listed m recipe time i a (some p) f h = rw (ne_eqb p.index i (λ e. omega (arith, f.listed)))
+
   -- a standard judges units of its own module and recipe alone
   pub judged_own : (u : UnitRecord) (i : ℕ) → judged_by listed u i ≡ true → For u.«module» u.recipe (at i)
   unfolding judged_by
@@ -102,7 +112,21 @@ module _ (at : ℕ → Standard) (n : ℕ) where
 
   -- ---- all unit records
 
+  pub none_judged : (units : UnitRecord → ℕ) (us : List UnitRecord) (i : ℕ) → n ≤ i → units_judged units listed us i ≡ 0
+  unfolding units_judged judged_by
+  none_judged units [] i h = refl
+  none_judged units (u ∷ us) i h =
+      rw (judge-listed u.«module» u.recipe u.time i (units u) (in_force listed u.«module» u.recipe u.time) (in_force_lem at u.«module» u.recipe u.time n) h) (zero-add (units_judged units listed us i) ∙ none_judged units us i h)
+
   module _ (modules : ℕ) (units : UnitRecord → ℕ) where
+    -- the judged units of all standards make the units of all unit records
+    pub all_judged : (us : List UnitRecord) → Passed modules listed us → sum_below (units_judged units listed us) n ≡ units_of units us
+    unfolding units_judged judged_by units_of
+    all_judged [] p = sum-each 0 n ∙ zero-mul n
+    all_judged (u ∷ us) p =
+        sym (sum-add _ (units_judged units listed us) n)
+        ∙ ap₂ ◌+◌ (one_judge u.«module» u.recipe u.time (units u) (in_force listed u.«module» u.recipe u.time) (in_force_lem at u.«module» u.recipe u.time n) p.1) (all_judged us p.2)
+
     -- units times the time in force, over all unit records
     unfoldable whole : List UnitRecord → ℕ
     whole [] = 0

@@ -2,6 +2,7 @@ pub mod Names
 pub mod Grounds
 pub mod Time
 pub mod Theoretical
+pub mod Credited
 pub mod Sequence
 pub mod Keys
 pub mod RecordGrounds
