@@ -45,6 +45,9 @@ module _ (s : List ℕ) (h : Header) (i byte : ℕ) (u : UnitRecord) (e : u ≡ 
       rw read_at ((f.0, f.1.0, f.1.1.0), f.1.1.1.0, f.1.1.1.1.0)
 
 -- a standard in force is one of the log's
+pub index-low : (s : List ℕ) (h : Header) (n : ℕ) (ss : List Standard) → ss ≡ up_to (standard_at s h) n → (m recipe time : ℕ) (p : Placed) → in_force ss m recipe time ≡ some p → p.index < n
+index-low s h n ss listed m recipe time p e = (the_one (standard_at s h) m recipe time n p (rw listed at e)).listed
+
 pub short : (s : List ℕ) (h : Header) (n : ℕ) (ss : List Standard) → ss ≡ up_to (standard_at s h) n → (m recipe time : ℕ) (p : Placed) → in_force ss m recipe time ≡ some p → p.standard.theoretical < 134217728
 short s h n ss listed m recipe time p e =
     let f = the_one (standard_at s h) m recipe time n p (rw listed at e) in

@@ -1,4 +1,4 @@
--- What the working sums hold: the theoretical times for the units of the first n unit records, of each module.
+-- What the working sums hold: of the first n unit records, the theoretical times for the units of each module, and the units that each standard judges.
 -- Definitions only.
 use Rattle.std.specs.Prelude.{◌≡◌, not, List, ℕ, ◌*◌, ◌^◌, ◌≤◌, ◌<◌, leb, ltb, eqb, length, get_or}
 use Rattle.records.specs.declared.Standard.{Standard}
@@ -8,7 +8,7 @@ use Rattle.rules.specs.declared.LogList.TheVariants.{Units}
 use Rattle.rules.specs.Grounds.{Verdict}
 use Rattle.std.specs.declared.result.Result.TheVariants.{Ok}
 use Rattle.rules.specs.Grounds.{ground, ◌then◌}
-use Rattle.rules.specs.Theoretical.{theoretical_time}
+use Rattle.rules.specs.Theoretical.{theoretical_time, units_judged}
 use Rattle.rules.specs.RecordGrounds.{standard_grounds, unit_grounds}
 
 -- the sums A and E of actual and of effective units
@@ -16,10 +16,17 @@ pub record Credited (ss : List Standard) (us : List UnitRecord) (A E : List ℕ)
   pub actual : (m : ℕ) → m < 64 → get_or A m 0 ≡ theoretical_time (λ u. u.actual) ss us m
   pub effective : (m : ℕ) → m < 64 → get_or E m 0 ≡ theoretical_time (λ u. u.effective) ss us m
 
--- the standards and the unit records tested, and the units credited
-pub record UnitsCredited (period modules : ℕ) (ss : List Standard) (us : List UnitRecord) (r : Verdict) (A E : List ℕ) : Type 0 where
+-- the counters C of the units that each standard judges, none above n times the 65,535 units that a record holds
+pub record JudgedSoFar (units : UnitRecord → ℕ) (ss : List Standard) (us : List UnitRecord) (n : ℕ) (C : List ℕ) : Type 0 where
+  pub sized : length C ≡ 512
+  pub low : (i : ℕ) → i < 512 → get_or C i 0 ≤ n * 65535
+  pub judged : (i : ℕ) → i < 512 → get_or C i 0 ≡ units_judged units ss us i
+
+-- the standards and the unit records tested, and the units credited, each to its module and to the standard that judges it
+pub record UnitsCredited (period modules : ℕ) (ss : List Standard) (us : List UnitRecord) (r : Verdict) (A E C : List ℕ) : Type 0 where
   pub answer : r ≡ standard_grounds period modules ss then unit_grounds period modules ss us
   pub credited : r ≡ Ok tt → Credited ss us A E
+  pub judged : r ≡ Ok tt → (i : ℕ) → i < 512 → get_or C i 0 ≡ units_judged (λ u. u.actual) ss us i
 
 -- ---- on the way
 

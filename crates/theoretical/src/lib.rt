@@ -1,4 +1,5 @@
-// Credits each unit with the theoretical time in force when it was made: the standards are tested and listed once, then the unit records are tested and summed.
+// Credits each unit with the theoretical time in force when it was made, and to the standard whose time that is: the standards are tested and listed once, then
+// the unit records are tested and summed.
 #![tactic(auto)]
 
 mod listing;
@@ -9,7 +10,7 @@ ghost use Rattle.records.specs.Whole.{units_begin};
 ghost use Rattle.rules.specs.Sequence.{is_rising, standard_key};
 ghost use Rattle.rules.specs.Keys.{standard_number, StandardFits, StandardsSequenced, unit_number, UnitFits, UnitsSequenced};
 ghost use Rattle.rules.specs.RecordGrounds.{standard_ground, standard_grounds, unit_ground, unit_grounds};
-ghost use Rattle.theoretical.specs.Credits.{own_grounds, Credited, SumsSoFar, UnitsCredited};
+ghost use Rattle.theoretical.specs.Credits.{own_grounds, Credited, SumsSoFar, JudgedSoFar, UnitsCredited};
 
 pub use listing::Standards;
 use records::{Header, Standard, StandardRecords, UnitRecord, UnitRecords};
@@ -109,7 +110,15 @@ fn credit(sums: &mut [u64; 64], m: usize, units: u64, theoretical: u64)
     sums[m] += units * theoretical;
 }
 
-// Unit record i tested, and its units credited to its module where it passes. `byte` is where it begins, and `before` the number of the
+// The counter of standard i grows by these units. Not a buyer's call: the caller owes that the index is within the counters and that they are low.
+pub fn count(counters: &mut [u64; 512], i: usize, units: u64)
+    requires { (i < 512) × (units < 65536) × (get_or counters.old i 0 < 2 ^ 63) }
+    ensures { counters.new ≡ set counters.old i (get_or counters.old i 0 + units) }
+{
+    counters[i] += units;
+}
+
+// Unit record i tested, and its units credited to its module and to its standard where it passes. `byte` is where it begins, and `before` the number of the
 // record before it, 0 where there is none. The sums and `before` are parameters and no struct: each contract would speak of it before and after.
 fn credit_unit(
     log: UnitRecords<'_>,
@@ -119,15 +128,18 @@ fn credit_unit(
     before: &mut u64,
     actual: &mut [u64; 64],
     effective: &mut [u64; 64],
+    credited: &mut [u64; 512],
 ) -> Result<(), Refusal>
-    requires listed { standards.now ≡ up_to (standard_at log.bytes.now log.header) log.header.standards }
+    requires listed { (standards.now ≡ up_to (standard_at log.bytes.now log.header) log.header.standards) × (log.header.standards ≤ 512) }
     requires rising { is_rising standard_key standards.now ≡ true }
     requires sequenced { UnitsSequenced (up_to (unit_at log.bytes.now log.header) i) before.old }
     requires summed { SumsSoFar standards.now (up_to (unit_at log.bytes.now log.header) i) i actual.old effective.old }
+    requires judged { JudgedSoFar (λ u. u.actual) standards.now (up_to (unit_at log.bytes.now log.header) i) i credited.old }
     requires i_bound { (i < 2000) × (i < log.header.units) × (byte ≡ units_begin log.header + 11 * i) }
     ensures answer { result ≡ unit_ground log.entry.header.period log.entry.header.modules standards.now (up_to (unit_at log.entry.bytes.now log.entry.header) i) i (unit_at log.entry.bytes.now log.entry.header i) }
     ensures sequenced { IfOk result (λ _. UnitsSequenced (up_to (unit_at log.entry.bytes.now log.entry.header) (i + 1)) before.new) }
     ensures summed { IfOk result (λ _. SumsSoFar standards.now (up_to (unit_at log.entry.bytes.now log.entry.header) (i + 1)) (i + 1) actual.new effective.new) }
+    ensures judged { IfOk result (λ _. JudgedSoFar (λ u. u.actual) standards.now (up_to (unit_at log.entry.bytes.now log.entry.header) (i + 1)) (i + 1) credited.new) }
 {
     let u = log.record_from(byte);
     test_unit(log.header, i, u)?;
@@ -139,6 +151,7 @@ fn credit_unit(
     *before = number;
     credit(actual, u.module, u.actual, p.standard.theoretical);
     credit(effective, u.module, u.effective, p.standard.theoretical);
+    count(credited, p.index, u.actual);
     Ok(())
 }
 
@@ -149,37 +162,41 @@ fn credit_listed(
     standards: &Standards,
     actual: &mut [u64; 64],
     effective: &mut [u64; 64],
+    credited: &mut [u64; 512],
 ) -> Result<(), Refusal>
-    requires listed { standards.now ≡ up_to (standard_at log.bytes.now log.header) log.header.standards }
+    requires listed { (standards.now ≡ up_to (standard_at log.bytes.now log.header) log.header.standards) × (log.header.standards ≤ 512) }
     requires rising { is_rising standard_key standards.now ≡ true }
     requires summed { SumsSoFar standards.now (up_to (unit_at log.bytes.now log.header) 0) 0 actual.old effective.old }
+    requires judged { JudgedSoFar (λ u. u.actual) standards.now (up_to (unit_at log.bytes.now log.header) 0) 0 credited.old }
     requires units_bound { log.header.units ≤ 2000 }
     ensures answer { result ≡ unit_grounds log.entry.header.period log.entry.header.modules standards.now (up_to (unit_at log.entry.bytes.now log.entry.header) log.entry.header.units) }
     ensures credited { IfOk result (λ _. Credited standards.now (up_to (unit_at log.entry.bytes.now log.entry.header) log.entry.header.units) actual.new effective.new) }
+    ensures judged { IfOk result (λ _. JudgedSoFar (λ u. u.actual) standards.now (up_to (unit_at log.entry.bytes.now log.entry.header) log.entry.header.units) log.entry.header.units credited.new) }
 {
     let mut before = 0;
     let mut byte = log.begin();
     // By index, which a refusal names; `byte` goes along, since a place worked out from the index at each record is slower.
     for i in 0..log.header.units {
-        credit_unit(log, i, byte, standards, &mut before, actual, effective)?;
+        credit_unit(log, i, byte, standards, &mut before, actual, effective, credited)?;
         byte += 11;
     }
     Ok(())
 }
 
-// Tests the standards, then the unit records, and sums the theoretical times for actual and for effective units of each module. Two arrays and no array
-// of pairs: each is summed over the modules on its own. Not a buyer's call: the caller owes that the counts are within
-// their bounds and that the sums start at zero.
+// Tests the standards, then the unit records, sums the theoretical times for actual and for effective units of each module, and counts the actual units that each
+// standard judges. Two arrays of sums and no array of pairs: each is summed over the modules on its own. Not a buyer's call: the caller owes that the counts are within
+// their bounds and that sums and counters start at zero.
 pub fn credit_units(
     log: UnitRecords<'_>,
     actual: &mut [u64; 64],
     effective: &mut [u64; 64],
+    credited: &mut [u64; 512],
 ) -> Result<(), Refusal>
     requires counts_bound { (log.header.standards ≤ 512) × (log.header.units ≤ 2000) }
-    requires actual_value { (actual.old ≡ replicate 64 0) × (effective.old ≡ replicate 64 0) }
-    ensures { UnitsCredited log.entry.header.period log.entry.header.modules (up_to (standard_at log.entry.bytes.now log.entry.header) log.entry.header.standards) (up_to (unit_at log.entry.bytes.now log.entry.header) log.entry.header.units) result actual.new effective.new }
+    requires actual_value { (actual.old ≡ replicate 64 0) × (effective.old ≡ replicate 64 0) × (credited.old ≡ replicate 512 0) }
+    ensures { UnitsCredited log.entry.header.period log.entry.header.modules (up_to (standard_at log.entry.bytes.now log.entry.header) log.entry.header.standards) (up_to (unit_at log.entry.bytes.now log.entry.header) log.entry.header.units) result actual.new effective.new credited.new }
 {
     let mut standards = Standards::new();
     list_standards(log.standards(), &mut standards)?;
-    credit_listed(log, &standards, actual, effective)
+    credit_listed(log, &standards, actual, effective, credited)
 }

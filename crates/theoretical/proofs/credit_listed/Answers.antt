@@ -14,7 +14,7 @@ use Rattle.theoretical.proofs.credit_listed.Goals as goal
 
 pub loop-i-init : goal.loop-i-init
 unfolding unit_grounds in_turn up_to
-loop-i-init c = record { place = omega arith; passed = refl; sequenced = sequenced_none unit_key unit_number UnitFits (λ u. omega arith); summed = c.requires.summed }
+loop-i-init c = record { place = omega arith; passed = refl; sequenced = sequenced_none unit_key unit_number UnitFits (λ u. omega arith); summed = c.requires.summed; judged = c.requires.judged }
 
 pub returns-in_err-credit_unit-clause-answer : goal.returns-in_err-credit_unit-clause-answer
 unfolding unit_grounds
@@ -31,4 +31,5 @@ loop-i-preserved c =
       passed = turn_more (unit_ground c.args.log.header.period c.args.log.header.modules c.args.standards.now) (unit_at c.args.log.bytes.now c.args.log.header) c.loop-i.i c.loop-i.invariant.passed (sym c.in_ok-credit_unit.ensures.answer);
       sequenced = c.in_ok-credit_unit.ensures.sequenced;
       summed = c.in_ok-credit_unit.ensures.summed;
+      judged = c.in_ok-credit_unit.ensures.judged;
     }
