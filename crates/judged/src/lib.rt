@@ -2,24 +2,16 @@
 // That there are at most 512 standards stands in three contracts: each call asks for the bound that its array needs.
 #![tactic(auto)]
 
-ghost use Rattle.std.specs.Prelude.{◌≡◌, true, ◌+◌, ◌*◌, ◌^◌, ◌<◌, ◌≤◌, get_or, set, replicate};
+ghost use Rattle.std.specs.Prelude.{◌≡◌, true, ◌+◌, ◌*◌, ◌<◌, ◌≤◌, replicate};
 ghost use Rattle.std.specs.declared.result.Result.TheVariants.{Ok};
 ghost use Rattle.records.specs.Log.{up_to, standard_at, unit_at};
 ghost use Rattle.records.specs.Whole.{units_begin};
 ghost use Rattle.rules.specs.Sequence.{is_rising, standard_key};
 ghost use Rattle.rules.specs.RecordGrounds.{standard_grounds};
-ghost use Rattle.judged.specs.Judged.{JudgedSoFar};
+ghost use Rattle.theoretical.specs.Credits.{JudgedSoFar};
 
 use records::UnitRecords;
 use theoretical::Standards;
-
-// The counter of standard k grows by these units.
-fn count(judged: &mut [u64; 512], k: usize, units: u64)
-    requires { (k < 512) × (units < 65536) × (get_or judged.old k 0 < 2 ^ 63) }
-    ensures { judged.new ≡ set judged.old k (get_or judged.old k 0 + units) }
-{
-    judged[k] += units;
-}
 
 // The units of unit record i counted for the standard that judges it. `byte` is where the record begins.
 fn count_unit(
@@ -31,13 +23,13 @@ fn count_unit(
 )
     requires listed { (standards.now ≡ up_to (standard_at log.bytes.now log.header) log.header.standards) × (log.header.standards ≤ 512) }
     requires rising { is_rising standard_key standards.now ≡ true }
-    requires so_far { JudgedSoFar standards.now (up_to (unit_at log.bytes.now log.header) i) i judged.old }
+    requires so_far { JudgedSoFar (λ u. u.effective) standards.now (up_to (unit_at log.bytes.now log.header) i) i judged.old }
     requires i_bound { (i < 2000) × (i < log.header.units) × (byte ≡ units_begin log.header + 11 * i) }
-    ensures { JudgedSoFar standards.now (up_to (unit_at log.entry.bytes.now log.entry.header) (i + 1)) (i + 1) judged.new }
+    ensures { JudgedSoFar (λ u. u.effective) standards.now (up_to (unit_at log.entry.bytes.now log.entry.header) (i + 1)) (i + 1) judged.new }
 {
     let u = log.record_from(byte);
     if let Some(p) = standards.look_up(u.module, u.recipe, u.time) {
-        count(judged, p.index, u.effective);
+        theoretical::count(judged, p.index, u.effective);
     }
 }
 
@@ -45,9 +37,9 @@ fn count_unit(
 fn count_units(log: UnitRecords<'_>, standards: &Standards, judged: &mut [u64; 512])
     requires listed { (standards.now ≡ up_to (standard_at log.bytes.now log.header) log.header.standards) × (log.header.standards ≤ 512) }
     requires rising { is_rising standard_key standards.now ≡ true }
-    requires so_far { JudgedSoFar standards.now (up_to (unit_at log.bytes.now log.header) 0) 0 judged.old }
+    requires so_far { JudgedSoFar (λ u. u.effective) standards.now (up_to (unit_at log.bytes.now log.header) 0) 0 judged.old }
     requires units_bound { log.header.units ≤ 2000 }
-    ensures { JudgedSoFar standards.now (up_to (unit_at log.entry.bytes.now log.entry.header) log.entry.header.units) log.entry.header.units judged.new }
+    ensures { JudgedSoFar (λ u. u.effective) standards.now (up_to (unit_at log.entry.bytes.now log.entry.header) log.entry.header.units) log.entry.header.units judged.new }
 {
     let mut byte = log.begin();
     for i in 0..log.header.units {
@@ -62,7 +54,7 @@ pub fn effective_units(log: UnitRecords<'_>, judged: &mut [u64; 512])
     requires counts_bound { (log.header.standards ≤ 512) × (log.header.units ≤ 2000) }
     requires accepted { standard_grounds log.header.period log.header.modules (up_to (standard_at log.bytes.now log.header) log.header.standards) ≡ Ok tt }
     requires judged_value { judged.old ≡ replicate 512 0 }
-    ensures { JudgedSoFar (up_to (standard_at log.entry.bytes.now log.entry.header) log.entry.header.standards) (up_to (unit_at log.entry.bytes.now log.entry.header) log.entry.header.units) log.entry.header.units judged.new }
+    ensures { JudgedSoFar (λ u. u.effective) (up_to (standard_at log.entry.bytes.now log.entry.header) log.entry.header.standards) (up_to (unit_at log.entry.bytes.now log.entry.header) log.entry.header.units) log.entry.header.units judged.new }
 {
     let mut standards = Standards::new();
     // They are accepted, so none is refused.

@@ -16,6 +16,7 @@ use Rattle.rules.specs.declared.Ground.TheVariants.{NoHeader, Period, Modules, C
 use Rattle.rules.specs.declared.LogList.TheVariants.{NoList}
 use Rattle.rules.specs.Grounds.{Verdict, ground, ◌then◌, first_of}
 use Rattle.rules.specs.RecordGrounds.{state_grounds, standard_grounds, unit_grounds}
+use Rattle.rules.specs.Credited.{credited_to, credits_of}
 use Rattle.rules.specs.Quantities.{time_in, uptime, actual_time, effective_time, of_tool, tool_times}
 use Rattle.rules.specs.Verdict.{bad_period, bad_modules, bad_counts, bad_length, header_grounds, fast_ground, any_over, any_time_over, sum_grounds, record_grounds, verdict}
 use Rattle.rules.proofs.FirstGround.{then-left, then-right, then-assoc, not-met}
@@ -98,17 +99,18 @@ module _ (s : List ℕ) where
         few = (counted s (header_of s) refl header).modules.1
 
         -- what the passes over the lists left behind
-        pub held : (T U A E : List ℕ) (v u : Verdict)
+        pub held : (T U A E C : List ℕ) (v u : Verdict)
             → Tallied (up_to (state_at s) (header_of s).states) (header_of s).period (header_of s).modules v T U → v ≡ Ok tt
-            → UnitsCredited (header_of s).period (header_of s).modules (up_to (standard_at s (header_of s)) (header_of s).standards) (up_to (unit_at s (header_of s)) (header_of s).units) u A E → u ≡ Ok tt
-            → WorkingTotals (decode s) T U A E
-        unfolding decode time_in uptime actual_time effective_time
-        held T U A E v u t e c d =
+            → UnitsCredited (header_of s).period (header_of s).modules (up_to (standard_at s (header_of s)) (header_of s).standards) (up_to (unit_at s (header_of s)) (header_of s).units) u A E C → u ≡ Ok tt
+            → WorkingTotals (decode s) T U A E C
+        unfolding decode time_in uptime actual_time effective_time credited_to credits_of
+        held T U A E C v u t e c d =
             record {
               times = λ m k l q. t.totals e m k l q;
               uptimes = λ m l. t.uptime e m l;
               actuals = λ m l. (c.credited d).actual m (omega (arith, few));
               effectives = λ m l. (c.credited d).effective m (omega (arith, few));
+              credits = c.judged d;
             }
 
         pub grounded : Grounded (decode s)

@@ -73,7 +73,8 @@ pub fn judge_log(log: &[u8]) -> Result<Account<'_>, Refusal>
     states::tally_states(log.states(), &mut totals, &mut uptime)?;
     let mut actual = [0u64; 64];
     let mut effective = [0u64; 64];
-    theoretical::credit_units(log.units(), &mut actual, &mut effective)?;
+    let mut credited = [0u64; 512];
+    theoretical::credit_units(log.units(), &mut actual, &mut effective, &mut credited)?;
     let totals = Totals {
         log: log.bytes,
         period: h.period,
@@ -82,6 +83,7 @@ pub fn judge_log(log: &[u8]) -> Result<Account<'_>, Refusal>
         uptime,
         actual,
         effective,
+        credited,
     };
     test_speeds(&totals)?;
     let over = over_quantities(totals.tool_quantities()) | over_times(totals.tool_times());

@@ -22,7 +22,7 @@ use Rattle.rules.proofs.FirstGround.{then-left}
 use Rattle.rules.proofs.Given.{given_refused, given_answered}
 use Rattle.rules.proofs.KnownRefusals.{AllKnown, known_ground, known_then, known_first}
 use Rattle.judging.proofs.Judging.{Counted, counted}
-use Rattle.judged.specs.Judged.{JudgedSoFar}
+use Rattle.theoretical.specs.Credits.{JudgedSoFar}
 use Rattle.benchmarks.specs.declared.Benchmark.{Benchmark}
 use Rattle.benchmarks.specs.Benchmarks.{benchmark_at, standards_in, time_at, effective_judged, any_zero, any_above, benchmark_ground, ground_at, benchmark_grounds, verdict_with}
 use Rattle.benchmarks.specs.Taking.{Lent}

@@ -14,7 +14,7 @@ use borrow.Author.Tests.{eq-eqb, ne_eqb}
 use Rattle.records.specs.declared.Standard.{Standard}
 use Rattle.records.specs.declared.UnitRecord.{UnitRecord}
 use Rattle.records.specs.Log.{up_to}
-use Rattle.records.proofs.UpTo.{up_to_more}
+use Rattle.records.proofs.UpTo.{up_to_more, up_to_all}
 use Rattle.rules.specs.declared.Placed.{Placed}
 use Rattle.rules.specs.Theoretical.{in_force, judged_by, units_judged}
 use Rattle.theoretical.specs.Credits.{JudgedSoFar}
@@ -60,6 +60,10 @@ module _ (units : UnitRecord → ℕ) (ss : List Standard) where
               ];
               judged = λ k l. rw (up_to_more at i, ← eu, judged-more (up_to at i) u k) (counter k l ∙ ap (λ (x : ℕ). x + cond (judged_by ss u k) (units u) 0) (so_far.judged k l));
             }
+
+    -- counters of all unit records
+    pub all_counted : (n : ℕ) (C : List ℕ) → JudgedSoFar units ss (up_to at n) n C → C ≡ up_to (units_judged units ss (up_to at n)) 512
+    all_counted n C so_far = sym (rw so_far.sized at (up_to_all (units_judged units ss (up_to at n)) C 0 (λ i low. sym (so_far.judged i (omega (arith, so_far.sized))))))
 
     -- counters that start at zero
     pub counted-from_zero : (C : List ℕ) → C ≡ replicate 512 0 → JudgedSoFar units ss (up_to at 0) 0 C

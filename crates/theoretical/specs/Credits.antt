@@ -3,6 +3,7 @@
 use Rattle.std.specs.Prelude.{◌≡◌, not, List, ℕ, ◌*◌, ◌^◌, ◌≤◌, ◌<◌, leb, ltb, eqb, length, get_or}
 use Rattle.records.specs.declared.Standard.{Standard}
 use Rattle.records.specs.declared.UnitRecord.{UnitRecord}
+use Rattle.records.specs.Log.{up_to}
 use Rattle.rules.specs.declared.Ground.TheVariants.{Spare, StrayModule, Outside, OverGood}
 use Rattle.rules.specs.declared.LogList.TheVariants.{Units}
 use Rattle.rules.specs.Grounds.{Verdict}
@@ -26,7 +27,7 @@ pub record JudgedSoFar (units : UnitRecord → ℕ) (ss : List Standard) (us : L
 pub record UnitsCredited (period modules : ℕ) (ss : List Standard) (us : List UnitRecord) (r : Verdict) (A E C : List ℕ) : Type 0 where
   pub answer : r ≡ standard_grounds period modules ss then unit_grounds period modules ss us
   pub credited : r ≡ Ok tt → Credited ss us A E
-  pub judged : r ≡ Ok tt → (i : ℕ) → i < 512 → get_or C i 0 ≡ units_judged (λ u. u.actual) ss us i
+  pub judged : r ≡ Ok tt → C ≡ up_to (units_judged (λ u. u.actual) ss us) 512
 
 -- ---- on the way
 

@@ -9,6 +9,7 @@ ghost use Rattle.records.specs.Log.{up_to, standard_at, unit_at};
 ghost use Rattle.records.specs.Whole.{units_begin};
 ghost use Rattle.rules.specs.Sequence.{is_rising, standard_key};
 ghost use Rattle.rules.specs.Keys.{standard_number, StandardFits, StandardsSequenced, unit_number, UnitFits, UnitsSequenced};
+ghost use Rattle.rules.specs.Theoretical.{units_judged};
 ghost use Rattle.rules.specs.RecordGrounds.{standard_ground, standard_grounds, unit_ground, unit_grounds};
 ghost use Rattle.theoretical.specs.Credits.{own_grounds, Credited, SumsSoFar, JudgedSoFar, UnitsCredited};
 
@@ -171,7 +172,7 @@ fn credit_listed(
     requires units_bound { log.header.units ≤ 2000 }
     ensures answer { result ≡ unit_grounds log.entry.header.period log.entry.header.modules standards.now (up_to (unit_at log.entry.bytes.now log.entry.header) log.entry.header.units) }
     ensures credited { IfOk result (λ _. Credited standards.now (up_to (unit_at log.entry.bytes.now log.entry.header) log.entry.header.units) actual.new effective.new) }
-    ensures judged { IfOk result (λ _. JudgedSoFar (λ u. u.actual) standards.now (up_to (unit_at log.entry.bytes.now log.entry.header) log.entry.header.units) log.entry.header.units credited.new) }
+    ensures judged { IfOk result (λ _. credited.new ≡ up_to (units_judged (λ u. u.actual) standards.now (up_to (unit_at log.entry.bytes.now log.entry.header) log.entry.header.units)) 512) }
 {
     let mut before = 0;
     let mut byte = log.begin();

@@ -4,7 +4,7 @@ use mathlib.Core.Path.{◌≡◌, ◌∙◌}
 use Rattle.std.specs.declared.result.Result.TheVariants.{Ok}
 use Rattle.rules.specs.Grounds.{Verdict}
 use Rattle.rules.proofs.Risen.{standards-rise}
-use Rattle.judged.proofs.Counting.{counted-from_zero}
+use Rattle.theoretical.proofs.Counting.{counted-from_zero}
 use Rattle.judged.proofs.effective_units.Goals as goal
 
 pub count_units-requires-clause-rising : goal.count_units-requires-clause-rising
@@ -14,4 +14,4 @@ count_units-requires-clause-rising c =
     rw (listed, c.standards.ensures.0, c.standards.ensures.1) (standards-rise _ _ _ c.requires.accepted)
 
 pub count_units-requires-clause-so_far : goal.count_units-requires-clause-so_far
-count_units-requires-clause-so_far c = counted-from_zero _ _ _ c.requires.judged_value
+count_units-requires-clause-so_far c = counted-from_zero _ _ _ _ c.requires.judged_value

@@ -61,7 +61,7 @@ invariant_of-totals c =
     record {
       period_value = header_period c.args.log.now _ c.read_header-h.ensures;
       modules_value = header_modules c.args.log.now _ c.read_header-h.ensures;
-      working_totals = held c.args.log.now header fine good _ _ _ _ _ _ t c.in_ok-tally_states.was u c.in_ok-credit_units.was;
+      working_totals = held c.args.log.now header fine good _ _ _ _ _ _ _ t c.in_ok-tally_states.was u c.in_ok-credit_units.was;
     }
 
 pub test_speeds-requires : goal.test_speeds-requires

@@ -1,6 +1,6 @@
 -- `credit_listed` meets its contract: the unit records ahead of the one in turn passed and are credited.
 -- Assumes nothing.
-use mathlib.Core.Path.{refl, sym}
+use mathlib.Core.Path.{◌≡◌, refl, sym}
 use native.Mathlib.Omega.{arith}
 use Rattle.std.proofs.lemmas.Result.{err_from_is_err_and}
 use Rattle.records.specs.Log.{up_to, unit_at}
@@ -9,6 +9,7 @@ use Rattle.rules.specs.RecordGrounds.{unit_ground, unit_grounds}
 use Rattle.rules.specs.Sequence.{unit_key}
 use Rattle.rules.specs.Keys.{unit_number, UnitFits}
 use Rattle.rules.proofs.Keys.{sequenced_none}
+use Rattle.theoretical.proofs.Counting.{all_counted}
 use Rattle.theoretical.proofs.Turns.{turn_more, turn_stop}
 use Rattle.theoretical.proofs.credit_listed.Goals as goal
 
@@ -33,3 +34,8 @@ loop-i-preserved c =
       summed = c.in_ok-credit_unit.ensures.summed;
       judged = c.in_ok-credit_unit.ensures.judged;
     }
+
+pub returns-clause-judged : goal.returns-clause-judged
+returns-clause-judged c =
+    let all : c.loop-i.i ≡ c.args.log.header.units = omega (arith, c.loop-i-test.false) in
+    all_counted (λ u. u.actual) c.args.standards.now (unit_at c.args.log.bytes.now c.args.log.header) c.args.log.header.units c.loop-i.credited (rw all at c.loop-i.invariant.judged)
