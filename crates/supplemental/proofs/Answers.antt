@@ -63,7 +63,7 @@ module _ (s b : List ℕ) where
     sized = counted s (header_of s) refl (then-left (header_grounds s) (record_grounds (decode s)) a)
 
     -- what is lent to the pass over the benchmarks
-    pub lent : (h : Header) → h ≡ header_of s → length b ≡ 14 * h.standards → (J : List ℕ) → JudgedSoFar (up_to (standard_at s h) h.standards) (up_to (unit_at s h) h.units) h.units J → Lent s h b J
+    pub lent : (h : Header) → h ≡ header_of s → length b ≡ 14 * h.standards → (J : List ℕ) → JudgedSoFar (λ u. u.effective) (up_to (standard_at s h) h.standards) (up_to (unit_at s h) h.units) h.units J → Lent s h b J
     unfolding effective_judged decode
     lent h e whole J j =
         let few : h.standards ≤ 512 = rw e sized.counts.1 in
