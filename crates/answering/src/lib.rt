@@ -14,8 +14,8 @@ use judging::Account;
 use losses::Losses;
 use rules::{Ground, LogList, Refusal, StateTimes};
 
-// The account of an accepted log that has module m: one that it does not have is stray.
-fn judge_module(log: &[u8], m: usize) -> Result<Account<'_>, Refusal>
+// The account of an accepted log that has module m: one that it does not have is stray. Every call about a module starts from it.
+pub fn judge_module(log: &[u8], m: usize) -> Result<Account<'_>, Refusal>
     ensures { MatchResult result (λ a. (a.log.bytes ≡ log.entry) × (m < (decode log.entry.now).modules)) (λ x. verdict_on log.entry.now m ≡ Err x) }
 {
     let account = judging::judge_log(log)?;
