@@ -28,7 +28,9 @@ impl From<InForce> for [u64; 2] {
 pub fn credited_units(log: &[u8]) -> Result<[u64; 512], Refusal>
     ensures { CreditedUnits log.now result }
 {
-    Ok(judging::judge_log(log)?.credited_units())
+    let mut credited = [0u64; 512];
+    judging::judge_credited(log, &mut credited)?;
+    Ok(credited)
 }
 
 // Whether a standard is for the module and the recipe and starts at or before the time.

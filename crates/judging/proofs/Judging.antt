@@ -102,16 +102,21 @@ module _ (s : List ℕ) where
         pub held : (T U A E C : List ℕ) (v u : Verdict)
             → Tallied (up_to (state_at s) (header_of s).states) (header_of s).period (header_of s).modules v T U → v ≡ Ok tt
             → UnitsCredited (header_of s).period (header_of s).modules (up_to (standard_at s (header_of s)) (header_of s).standards) (up_to (unit_at s (header_of s)) (header_of s).units) u A E C → u ≡ Ok tt
-            → WorkingTotals (decode s) T U A E C
-        unfolding decode time_in uptime actual_time effective_time credited_to credits_of
+            → WorkingTotals (decode s) T U A E
+        unfolding decode time_in uptime actual_time effective_time
         held T U A E C v u t e c d =
             record {
               times = λ m k l q. t.totals e m k l q;
               uptimes = λ m l. t.uptime e m l;
               actuals = λ m l. (c.credited d).actual m (omega (arith, few));
               effectives = λ m l. (c.credited d).effective m (omega (arith, few));
-              credits = c.judged d;
             }
+
+        pub all_credited : (A E C : List ℕ) (u : Verdict)
+            → UnitsCredited (header_of s).period (header_of s).modules (up_to (standard_at s (header_of s)) (header_of s).standards) (up_to (unit_at s (header_of s)) (header_of s).units) u A E C → u ≡ Ok tt
+            → C ≡ credits_of (decode s)
+        unfolding decode credited_to credits_of
+        all_credited A E C u c d = c.judged d
 
         pub grounded : Grounded (decode s)
         unfolding decode

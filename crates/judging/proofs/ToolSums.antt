@@ -26,7 +26,7 @@ module _ (l : Log) (s : Consistent l) (n : ℕ) (en : n ≡ l.modules) where
   pub total_is : l.period * n ≡ sum_below (λ m. l.period) l.modules
   total_is = rw en (sym (sum-each l.period l.modules))
 
-  module _ (T U A E C : List ℕ) (held : WorkingTotals l T U A E C) where
+  module _ (T U A E : List ℕ) (held : WorkingTotals l T U A E) where
     pub state_room : (k : ℕ) → k < 6 → (n ≤ 64) × (k < 6) × ((m : ℕ) → m < n → get_or T (6 * m + k) 0 ≤ 31622400000)
     state_room k low =
         let r = room (λ m. get_or T (6 * m + k) 0) (time_in l k) (λ m h. held.times m k h low) (λ m h. s.times k m h) in

@@ -2,7 +2,6 @@
 ghost use Rattle.std.specs.Prelude.{◌≡◌, ◌<◌, ◌≤◌};
 ghost use Rattle.std.specs.declared.result.Result.TheVariants.{Ok};
 ghost use Rattle.records.specs.Log.{decode};
-ghost use Rattle.rules.specs.Credited.{credits_of};
 ghost use Rattle.rules.specs.Quantities.{module_times, tool_times, of_module, of_tool};
 ghost use Rattle.rules.specs.Verdict.{verdict};
 ghost use Rattle.judging.specs.Working.{Consistent};
@@ -58,12 +57,5 @@ impl<'a> Account<'a> {
         ensures { result ≡ of_tool (decode self.now.log.bytes.now) }
     {
         self.totals.tool_quantities()
-    }
-
-    // The actual units credited to each standard.
-    pub fn credited_units(&self) -> [u64; 512]
-        ensures { result ≡ credits_of (decode self.now.log.bytes.now) }
-    {
-        self.totals.credited
     }
 }

@@ -5,10 +5,11 @@ mod account;
 mod header;
 mod sums;
 
-ghost use Rattle.std.specs.Prelude.{◌≡◌, ◌||◌, ◌≤◌, MatchResult};
+ghost use Rattle.std.specs.Prelude.{◌≡◌, ◌||◌, ◌≤◌, replicate, MatchResult, IfOk};
 ghost use Rattle.std.specs.declared.result.Result.TheVariants.{Err};
 ghost use Rattle.records.specs.Log.{decode};
 ghost use Rattle.rules.specs.Grounds.{first_of};
+ghost use Rattle.rules.specs.Credited.{credits_of};
 ghost use Rattle.rules.specs.Verdict.{fast_ground, is_over, any_over, any_time_over, verdict};
 
 pub use account::Account;
@@ -61,9 +62,15 @@ fn over_times(t: StateTimes) -> bool
 }
 
 // A log judged from nothing: its account, or the first ground met. The header, the state records, the standards and the unit records, the speeds, the
-// tool's sums.
-pub fn judge_log(log: &[u8]) -> Result<Account<'_>, Refusal>
-    ensures { MatchResult result (λ a. a.log.bytes ≡ log.entry) (λ x. verdict log.entry.now ≡ Err x) }
+// tool's sums. The counters, which the caller owes to start at zero, are left with the actual units credited to each standard. They are lent and no part of an account,
+// which is handed on by value.
+pub fn judge_credited<'a>(
+    log: &'a [u8],
+    credited: &mut [u64; 512],
+) -> Result<Account<'a>, Refusal>
+    requires { credited.old ≡ replicate 512 0 }
+    ensures judged { MatchResult result (λ a. a.log.bytes ≡ log.entry) (λ x. verdict log.entry.now ≡ Err x) }
+    ensures credited { IfOk result (λ _. credited.new ≡ credits_of (decode log.entry.now)) }
 {
     let h = records::read_header(log);
     header::test_header(log, h)?;
@@ -73,8 +80,7 @@ pub fn judge_log(log: &[u8]) -> Result<Account<'_>, Refusal>
     states::tally_states(log.states(), &mut totals, &mut uptime)?;
     let mut actual = [0u64; 64];
     let mut effective = [0u64; 64];
-    let mut credited = [0u64; 512];
-    theoretical::credit_units(log.units(), &mut actual, &mut effective, &mut credited)?;
+    theoretical::credit_units(log.units(), &mut actual, &mut effective, credited)?;
     let totals = Totals {
         log: log.bytes,
         period: h.period,
@@ -83,10 +89,16 @@ pub fn judge_log(log: &[u8]) -> Result<Account<'_>, Refusal>
         uptime,
         actual,
         effective,
-        credited,
     };
     test_speeds(&totals)?;
     let over = over_quantities(totals.tool_quantities()) | over_times(totals.tool_times());
     Ground::TooGreat.refuses(over, LogList::NoList, 0)?;
     Ok(Account { log, totals })
+}
+
+// The same for a call that hands no credited units out.
+pub fn judge_log(log: &[u8]) -> Result<Account<'_>, Refusal>
+    ensures { MatchResult result (λ a. a.log.bytes ≡ log.entry) (λ x. verdict log.entry.now ≡ Err x) }
+{
+    judge_credited(log, &mut [0u64; 512])
 }

@@ -8,7 +8,7 @@ use e79::Quantities;
 use rules::StateTimes;
 
 // What its header says of period and modules, and the working totals: for each module six state times, the uptime, and the theoretical times for actual
-// and for effective units; for each standard the actual units credited to it. Arrays lent and summed by the module's number, and no array of structs: the pass over the states adds to the first alone, at six
+// and for effective units. Arrays lent and summed by the module's number, and no array of structs: the pass over the states adds to the first alone, at six
 // times module plus state, as document 01 has it. Period and modules are the header's, which `records::read_header` gives for every slice. That the log is
 // consistent stands in three contracts: totals are made before the speeds are tested, and an `Account` owns it.
 #[derive(Clone, Copy)]
@@ -20,10 +20,9 @@ pub struct Totals<'a> {
     pub uptime: [u64; 64],
     pub actual: [u64; 64],
     pub effective: [u64; 64],
-    pub credited: [u64; 512],
     pub ghost period_value: { period ≡ (decode log.now).period },
     pub ghost modules_value: { modules ≡ (decode log.now).modules },
-    pub ghost working_totals: { WorkingTotals (decode log.now) totals uptime actual effective credited },
+    pub ghost working_totals: { WorkingTotals (decode log.now) totals uptime actual effective },
 }
 
 // A quantity summed over the modules. By number: `values[..modules].iter().sum()` was tried, and that `modules` is within the array did not close.

@@ -21,6 +21,6 @@ pub overflow_add-sum-in-loop-m : goal.overflow_add-sum-in-loop-m
 overflow_add-sum-in-loop-m c =
     let t = c.args.self.now in
     let l = c.loop-m in
-    let room = state_room (decode t.log.now) c.requires.consistent t.modules t.modules_value t.totals t.uptime t.actual t.effective t.credited t.working_totals c.args.k c.requires.state in
+    let room = state_room (decode t.log.now) c.requires.consistent t.modules t.modules_value t.totals t.uptime t.actual t.effective t.working_totals c.args.k c.requires.state in
     let so-far = rw (← l.invariant) at (sum_low (λ j. get_or t.totals (6 * j + c.args.k) 0) 31622400000 l.m (λ j h. room.2 j (omega (arith, c.loop-m-test.true)))) in
     record { fits = omega (arith, so-far, room.2 l.m c.loop-m-test.true, room.0, c.loop-m-test.true) }

@@ -1,15 +1,15 @@
--- `judging::judge_log` meets its contract: the header, the state records, the standards with the unit records, and the sums are tested in turn.
+-- `judging::judge_credited` meets its contract: the header, the state records, the standards with the unit records, and the sums are tested in turn.
 -- Assumes nothing.
 use mathlib.Core.Path.{◌≡◌, refl, sym, ap, ◌∙◌}
 use native.Mathlib.Omega.{arith}
 use Rattle.std.specs.declared.result.Result.TheVariants.{Ok, Err}
 use Rattle.records.specs.Log.{decode}
 use Rattle.rules.specs.Verdict.{header_grounds}
-use Rattle.judging.proofs.Judging.{counted, header_period, header_modules, judged_header, judged_states, judged_units, held, judged_speeds, judged_greats, all_consistent, all_accepted}
-use Rattle.judging.proofs.judge_log.Goals as goal
+use Rattle.judging.proofs.Judging.{counted, header_period, header_modules, judged_header, judged_states, judged_units, held, all_credited, judged_speeds, judged_greats, all_consistent, all_accepted}
+use Rattle.judging.proofs.judge_credited.Goals as goal
 
-pub returns-in_err-test_header : goal.returns-in_err-test_header
-returns-in_err-test_header c =
+pub returns-in_err-test_header-clause-judged : goal.returns-in_err-test_header-clause-judged
+returns-in_err-test_header-clause-judged c =
     let err : c.from_residual.result ≡ Err c.in_err-test_header.field-0.0 = grind arith in
     rw err (judged_header c.args.log.now _ (sym c.test_header.ensures ∙ c.in_err-test_header.was))
 
@@ -25,8 +25,8 @@ tally_states-requires-clause-modules_bound c =
     let n = counted c.args.log.now _ c.read_header-h.ensures header in
     rw (c.states.ensures.1, c.new-log.ensures.1) n.modules.1
 
-pub returns-in_err-tally_states : goal.returns-in_err-tally_states
-returns-in_err-tally_states c =
+pub returns-in_err-tally_states-clause-judged : goal.returns-in_err-tally_states-clause-judged
+returns-in_err-tally_states-clause-judged c =
     let header : header_grounds c.args.log.now ≡ Ok tt = sym c.test_header.ensures ∙ c.in_ok-test_header.was in
     let n = counted c.args.log.now _ c.read_header-h.ensures header in
     let t = rw (c.states.ensures.0, c.states.ensures.1, c.new-log.ensures.0, c.new-log.ensures.1, c.read_header-h.ensures) at c.tally_states.ensures in
@@ -39,8 +39,8 @@ credit_units-requires-clause-counts_bound c =
     let n = counted c.args.log.now _ c.read_header-h.ensures header in
     rw (c.units.ensures.1, c.new-log.ensures.1) (n.counts.1, n.counts.2)
 
-pub returns-in_err-credit_units : goal.returns-in_err-credit_units
-returns-in_err-credit_units c =
+pub returns-in_err-credit_units-clause-judged : goal.returns-in_err-credit_units-clause-judged
+returns-in_err-credit_units-clause-judged c =
     let header : header_grounds c.args.log.now ≡ Ok tt = sym c.test_header.ensures ∙ c.in_ok-test_header.was in
     let n = counted c.args.log.now _ c.read_header-h.ensures header in
     let t = rw (c.states.ensures.0, c.states.ensures.1, c.new-log.ensures.0, c.new-log.ensures.1, c.read_header-h.ensures) at c.tally_states.ensures in
@@ -70,8 +70,8 @@ test_speeds-requires c =
     let n = counted c.args.log.now _ c.read_header-h.ensures header in
     n.modules.1
 
-pub returns-in_err-test_speeds : goal.returns-in_err-test_speeds
-returns-in_err-test_speeds c =
+pub returns-in_err-test_speeds-clause-judged : goal.returns-in_err-test_speeds-clause-judged
+returns-in_err-test_speeds-clause-judged c =
     let header : header_grounds c.args.log.now ≡ Ok tt = sym c.test_header.ensures ∙ c.in_ok-test_header.was in
     let n = counted c.args.log.now _ c.read_header-h.ensures header in
     let t = rw (c.states.ensures.0, c.states.ensures.1, c.new-log.ensures.0, c.new-log.ensures.1, c.read_header-h.ensures) at c.tally_states.ensures in
@@ -106,8 +106,8 @@ tool_times-requires c =
     let fast = sym speeds ∙ c.in_ok-test_speeds.was in
     rw c.new-log.ensures.0 (all_consistent c.args.log.now header fine good fast)
 
-pub returns-in_err-refuses : goal.returns-in_err-refuses
-returns-in_err-refuses c =
+pub returns-in_err-refuses-clause-judged : goal.returns-in_err-refuses-clause-judged
+returns-in_err-refuses-clause-judged c =
     let header : header_grounds c.args.log.now ≡ Ok tt = sym c.test_header.ensures ∙ c.in_ok-test_header.was in
     let n = counted c.args.log.now _ c.read_header-h.ensures header in
     let t = rw (c.states.ensures.0, c.states.ensures.1, c.new-log.ensures.0, c.new-log.ensures.1, c.read_header-h.ensures) at c.tally_states.ensures in
@@ -135,3 +135,11 @@ invariant_of-result c =
       own = refl;
       consistent = all_consistent c.args.log.now header fine good fast;
     }
+
+pub returns-clause-credited : goal.returns-clause-credited
+returns-clause-credited c =
+    let header : header_grounds c.args.log.now ≡ Ok tt = sym c.test_header.ensures ∙ c.in_ok-test_header.was in
+    let t = rw (c.states.ensures.0, c.states.ensures.1, c.new-log.ensures.0, c.new-log.ensures.1, c.read_header-h.ensures) at c.tally_states.ensures in
+    let fine = sym t.answer ∙ c.in_ok-tally_states.was in
+    let u = rw (c.units.ensures.0, c.units.ensures.1, c.new-log.ensures.0, c.new-log.ensures.1, c.read_header-h.ensures) at c.credit_units.ensures in
+    all_credited c.args.log.now header fine (sym u.answer ∙ c.in_ok-credit_units.was) _ _ _ _ u c.in_ok-credit_units.was
