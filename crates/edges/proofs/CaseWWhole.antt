@@ -14,14 +14,14 @@ use Rattle.rules.specs.Time.{count}
 use Rattle.rules.specs.Quantities.{sum_below, actual_time, effective_time, of_tool}
 use Rattle.rules.specs.Verdict.{verdict}
 use Rattle.losses.specs.Losses.{losses_of}
-use Rattle.reporting.specs.Reports.{report_text, verdict_for, written_by, written_part}
+use Rattle.reporting.specs.Reports.{report_text, verdict_for_text, verdict_for, written_by, written_part}
 use Rattle.edges.specs.CaseW.{case_w, case_w_log, case_w_report, CaseW}
 use Rattle.edges.proofs.ByStretches.{verdict_by, verdict_by-stretches, report_by, report_by-stretches, tool_by-stretches}
 
 -- what a buffer gets, from the report on an accepted log
 module _ (s text : List ℕ) (a : verdict s ≡ Ok tt) (r : report_text (decode s) ≡ text) (room : ℕ) where
   for-room : verdict_for s room ≡ ground ShortBuffer NoList 0 (ltb room (length text))
-  unfolding verdict_for
+  unfolding verdict_for_text
   for-room = ap₂ (λ (v : Verdict) (t : List ℕ). v then ground ShortBuffer NoList 0 (ltb room (length t))) a r
 
   part : written_part s room ≡ written_by (ground ShortBuffer NoList 0 (ltb room (length text))) text

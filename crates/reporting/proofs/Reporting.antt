@@ -26,7 +26,7 @@ use Rattle.report.proofs.Lengths.{heading-length, length-report}
 use Rattle.report.proofs.Tables.{table_length}
 use Rattle.filling.proofs.Written.{written-front, at_front, front-more}
 use Rattle.judging.specs.Working.{Consistent}
-use Rattle.reporting.specs.Reports.{printed_by, printed, Prints, report_text, verdict_for, ForRoom, of_log, short, Examined, written_by, written_part, Written}
+use Rattle.reporting.specs.Reports.{printed_by, printed, Prints, report_text, verdict_for_text, verdict_for, ForText, of_log, short, Examined, written_by, written_part, Written}
 use Rattle.rules.proofs.KnownRefusals.{log-refusal}
 
 -- ---- the length of a report
@@ -37,31 +37,39 @@ report_length_lem l = rw heading-length at (table_length heading (λ m. module_l
 
 -- ---- the verdict for a buffer
 
-module _ (s : List ℕ) (room : ℕ) where
-  pub room_refused : (x : Refusal) → verdict s ≡ Err x → verdict_for s room ≡ Err x
-  unfolding verdict_for
-  room_refused x e = ap (λ (w : Verdict). w then ground ShortBuffer NoList 0 (ltb room (length (report_text (decode s))))) e
+module _ (text : Log → List ℕ) (s : List ℕ) (room : ℕ) where
+  abbrev size : ℕ
+  size = length (text (decode s))
 
-  pub examined_refused : (x : Refusal) → verdict s ≡ Err x → Examined s room (Err x)
-  examined_refused x e = record { answer = sym (room_refused x e); refusal = λ y f. of_log (log-refusal s y (e ∙ f)) }
+  pub room_refused : (x : Refusal) → verdict s ≡ Err x → verdict_for_text text s room ≡ Err x
+  unfolding verdict_for_text
+  room_refused x e = ap (λ (w : Verdict). w then ground ShortBuffer NoList 0 (ltb room size)) e
 
   module _ (e : verdict s ≡ Ok tt) where
-    for-room : verdict_for s room ≡ ground ShortBuffer NoList 0 (ltb room (length (report_text (decode s))))
-    unfolding verdict_for
-    for-room = ap (λ (w : Verdict). w then ground ShortBuffer NoList 0 (ltb room (length (report_text (decode s))))) e
+    pub for-room : verdict_for_text text s room ≡ ground ShortBuffer NoList 0 (ltb room size)
+    unfolding verdict_for_text
+    for-room = ap (λ (w : Verdict). w then ground ShortBuffer NoList 0 (ltb room size)) e
 
-    pub room_short : room < length (report_text (decode s)) → verdict_for s room ≡ Err (record { ground = ShortBuffer; list = NoList; place = 0 })
-    room_short h = for-room ∙ ap (ground ShortBuffer NoList 0) (lt-ltb room (length (report_text (decode s))) h)
+    pub room_short : room < size → verdict_for_text text s room ≡ Err (record { ground = ShortBuffer; list = NoList; place = 0 })
+    room_short h = for-room ∙ ap (ground ShortBuffer NoList 0) (lt-ltb room size h)
 
-    pub room_enough : length (report_text (decode s)) ≤ room → verdict_for s room ≡ Ok tt
-    room_enough h = for-room ∙ ap (ground ShortBuffer NoList 0) (le-ltb room (length (report_text (decode s))) h)
+    pub room_enough : size ≤ room → verdict_for_text text s room ≡ Ok tt
+    room_enough h = for-room ∙ ap (ground ShortBuffer NoList 0) (le-ltb room size h)
 
-    pub examined : (v : Verdict) → v ≡ ground ShortBuffer NoList 0 (ltb room (length (report_text (decode s)))) → Examined s room v
-    examined v q = record { answer = q ∙ sym for-room; refusal = λ y f. go (ltb room (length (report_text (decode s)))) refl y (sym q ∙ f) }
+    -- what the test of the room refuses is refused for the room
+    pub refused_short : (x : Refusal) → ground ShortBuffer NoList 0 (ltb room size) ≡ Err x → ForText text s room x
+    refused_short x f = go (ltb room size) refl f
       where
-        go : (b : Bool) → ltb room (length (report_text (decode s))) ≡ b → (y : Refusal) → ground ShortBuffer NoList 0 b ≡ Err y → ForRoom s room y
-        go true p y f = let q : y ≡ record { ground = ShortBuffer; list = NoList; place = 0 } = cc in short e (ltb-true room (length (report_text (decode s))) p) q
-        go false p y f = absurd (refused-not (sym f))
+        go : (b : Bool) → ltb room size ≡ b → ground ShortBuffer NoList 0 b ≡ Err x → ForText text s room x
+        go true p g = let q : x ≡ record { ground = ShortBuffer; list = NoList; place = 0 } = cc in short e (ltb-true room size p) q
+        go false p g = absurd (refused-not (sym g))
+
+module _ (s : List ℕ) (room : ℕ) where
+  pub examined_refused : (x : Refusal) → verdict s ≡ Err x → Examined s room (Err x)
+  examined_refused x e = record { answer = sym (room_refused report_text s room x e); refusal = λ y f. of_log (log-refusal s y (e ∙ f)) }
+
+  pub examined : verdict s ≡ Ok tt → (v : Verdict) → v ≡ ground ShortBuffer NoList 0 (ltb room (length (report_text (decode s)))) → Examined s room v
+  examined e v q = record { answer = q ∙ sym (for-room report_text s room e); refusal = λ y f. refused_short report_text s room e y (sym q ∙ f) }
 
 -- ---- what is written
 

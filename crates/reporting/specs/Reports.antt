@@ -19,14 +19,21 @@ unfoldable pub report_text : Log → List ℕ
 unfolding report_of
 report_text l = report_of l.modules (of_module l) (of_tool l)
 
--- acceptance of a log and a buffer of `room` bytes, or the refusal: 18 only for an accepted log, whose report is longer than the buffer
-unfoldable pub verdict_for : List ℕ → ℕ → Verdict
-unfolding verdict report_text decode
-verdict_for s room = verdict s then ground ShortBuffer NoList 0 (ltb room (length (report_text (decode s))))
+-- acceptance of a log and a buffer of `room` bytes for a text about it, or the refusal: 18 only for an accepted log, whose text is longer than the buffer
+unfoldable pub verdict_for_text : (Log → List ℕ) → List ℕ → ℕ → Verdict
+unfolding verdict decode
+verdict_for_text text s room = verdict s then ground ShortBuffer NoList 0 (ltb room (length (text (decode s))))
 
-pub data ForRoom (s : List ℕ) (room : ℕ) (x : Refusal) : Type 0 where
-  of_log : OfLog s x → ForRoom s room x
-  short : verdict s ≡ Ok tt → room < length (report_text (decode s)) → x ≡ refusal ShortBuffer NoList 0 → ForRoom s room x
+pub data ForText (text : Log → List ℕ) (s : List ℕ) (room : ℕ) (x : Refusal) : Type 0 where
+  of_log : OfLog s x → ForText text s room x
+  short : verdict s ≡ Ok tt → room < length (text (decode s)) → x ≡ refusal ShortBuffer NoList 0 → ForText text s room x
+
+-- for its report
+abbrev pub verdict_for : List ℕ → ℕ → Verdict
+verdict_for s room = verdict_for_text report_text s room
+
+abbrev pub ForRoom : List ℕ → ℕ → Refusal → Type 0
+ForRoom s room x = ForText report_text s room x
 
 pub record Examined (s : List ℕ) (room : ℕ) (r : Verdict) : Type 0 where
   pub answer : r ≡ verdict_for s room
@@ -38,7 +45,7 @@ written_by (Ok tt) text = text
 written_by (Err x) text = []
 
 unfoldable pub written_part : List ℕ → ℕ → List ℕ
-unfolding verdict_for report_text decode
+unfolding verdict_for_text report_text decode
 written_part s room = written_by (verdict_for s room) (report_text (decode s))
 
 -- the length of the written part is answered, it stands at the front of the buffer, and the bytes behind it are as they were
