@@ -28,6 +28,11 @@ module _ (line : ℕ → List ℕ) where
       let e : m + suc d ≡ m + d + 1 = omega arith in
       rw e (omega (arith, length-mono m d, length_more (m + d)))
 
+  pub joined_same : (other : ℕ → List ℕ) (n : ℕ) → ((k : ℕ) → k < n → line k ≡ other k) → joined line n ≡ joined other n
+  unfolding joined
+  joined_same other zero h = refl
+  joined_same other (suc n) h = rw (joined_same other n (λ k b. h k (omega arith)), h n (omega arith))
+
   pub joined_longest : (most n : ℕ) → ((k : ℕ) → k < n → length (line k) ≤ most) → length (joined line n) ≤ most * n
   unfolding joined
   joined_longest most zero h = omega arith

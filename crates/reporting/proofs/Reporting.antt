@@ -116,8 +116,11 @@ module _ (text : Log → List ℕ) (most : ℕ) (s b : List ℕ) (r : ℕ) (a : 
       let same : printed text s ≡ refused_line x = ap (λ (w : Verdict). printed_by w (text (decode s))) e in
       rw same (front-more h p)
 
-  pub prints_text : verdict s ≡ Ok tt → length (text (decode s)) ≤ most → Put (text (decode s)) b 0 r a → Prints text most s b r a
+  pub prints_front : verdict s ≡ Ok tt → AtFront (text (decode s)) most b r a → Prints text most s b r a
   unfolding printed
-  prints_text e h p =
+  prints_front e p =
       let same : printed text s ≡ text (decode s) = ap (λ (w : Verdict). printed_by w (text (decode s))) e in
-      rw same (at_front most h p)
+      rw same p
+
+  pub prints_text : verdict s ≡ Ok tt → length (text (decode s)) ≤ most → Put (text (decode s)) b 0 r a → Prints text most s b r a
+  prints_text e h p = prints_front e (at_front most h p)

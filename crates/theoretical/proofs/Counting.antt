@@ -1,10 +1,10 @@
 -- One more unit record counted: for the standard in force, and for no other.
 -- Assumes nothing.
 use mathlib.Core.Path.{◌≡◌, sym, ap, ◌∙◌}
-use mathlib.Core.Bool.{cond}
+use mathlib.Core.Bool.{Bool, true, false, cond}
 use mathlib.Core.Option.{none, some}
 use mathlib.Core.List.{List, [], ◌∷◌, ◌++◌}
-use Prim.Native.Nat.{ℕ, ◌+◌, ◌<◌}
+use Prim.Native.Nat.{ℕ, zero, suc, ◌+◌, ◌*◌, ◌≤◌, ◌<◌}
 use native.Mathlib.Nat.{add_assoc}
 use native.Mathlib.Decide.{ℕ_discrete}
 use native.Mathlib.Omega.{arith}
@@ -60,6 +60,16 @@ module _ (units : UnitRecord → ℕ) (ss : List Standard) where
               ];
               judged = λ k l. rw (up_to_more at i, ← eu, judged-more (up_to at i) u k) (counter k l ∙ ap (λ (x : ℕ). x + cond (judged_by ss u k) (units u) 0) (so_far.judged k l));
             }
+
+    -- none is above the number of records times the units that one holds
+    pub judged_low : ((i : ℕ) → units (at i) < 65536) → (n k : ℕ) → units_judged units ss (up_to at n) k ≤ n * 65535
+    unfolding up_to units_judged
+    judged_low few zero k = omega arith
+    judged_low few (suc n) k = rw (judged-more (up_to at n) (at n) k) (omega (arith, judged_low few n k, part (judged_by ss (at n) k)))
+      where
+        part : (b : Bool) → cond b (units (at n)) 0 ≤ 65535
+        part true = omega (arith, few n)
+        part false = omega arith
 
     -- counters of all unit records
     pub all_counted : (n : ℕ) (C : List ℕ) → JudgedSoFar units ss (up_to at n) n C → C ≡ up_to (units_judged units ss (up_to at n)) 512

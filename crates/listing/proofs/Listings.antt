@@ -1,0 +1,96 @@
+-- A text about a log in a lent buffer: refused with the log, refused for the room, or written. And the listing of an accepted log's credited units.
+-- Assumes nothing.
+use mathlib.Core.Path.{◌≡◌, refl, sym, ap, ◌∙◌}
+use mathlib.Core.List.{List, []}
+use Prim.Native.Nat.{ℕ, ◌+◌, ◌*◌, ◌≤◌, ◌<◌}
+use native.Mathlib.Nat.{zero-add}
+use native.Mathlib.Omega.{arith}
+use lib.ListN.{length, get_or}
+use lib.Dec.{ltb}
+use Rattle.std.specs.declared.result.Result.TheVariants.{Ok, Err}
+use Rattle.records.specs.Log.{Log, header_of, standard_at, unit_at, decode}
+use Rattle.records.proofs.UpTo.{length_up_to, up_to_at}
+use Rattle.records.proofs.Widths.{unit-fits}
+use Rattle.rules.specs.declared.Refusal.{Refusal}
+use Rattle.rules.specs.declared.Ground.TheVariants.{ShortBuffer}
+use Rattle.rules.specs.declared.LogList.TheVariants.{NoList}
+use Rattle.rules.specs.Grounds.{Verdict, ground}
+use Rattle.rules.specs.Answers.{answer_of}
+use Rattle.rules.specs.Credited.{credited_to, credits_of}
+use Rattle.rules.specs.Verdict.{verdict, header_grounds, record_grounds}
+use Rattle.rules.proofs.FirstGround.{then-left}
+use Rattle.rules.proofs.Given.{never, one_answer, one_refusal}
+use Rattle.rules.proofs.KnownRefusals.{log-refusal}
+use Rattle.filling.specs.Buffer.{Put}
+use Rattle.filling.proofs.Written.{written-front}
+use Rattle.report.specs.Report.{joined}
+use Rattle.report.proofs.Tables.{joined_same}
+use Rattle.theoretical.proofs.Counting.{judged_low}
+use Rattle.judging.proofs.Judging.{counted}
+use Rattle.reporting.specs.Reports.{verdict_for_text, ForText, of_log, written_by}
+use Rattle.reporting.proofs.Reporting.{room_refused, for-room, room_enough, refused_short}
+use Rattle.listing.specs.Listings.{credit_line, credit_listing, text_written, TextWritten}
+
+-- ---- any text
+
+module _ (text : Log → List ℕ) (most : ℕ) (s b : List ℕ) where
+  abbrev size : ℕ
+  size = length (text (decode s))
+
+  -- nothing is written
+  refused : (x : Refusal) → verdict_for_text text s (length b) ≡ Err x → ForText text s (length b) x → TextWritten text most s b (Err x) b
+  unfolding text_written
+  refused x e for =
+      let part : text_written text s (length b) ≡ [] = ap (λ (w : Verdict). written_by w (text (decode s))) e in
+      record {
+        answer = ap (λ (w : Verdict). answer_of w size) (sym e);
+        bytes = rw part;
+        within = λ n q. absurd (never n x (sym q));
+        unchanged = λ y q. refl;
+        refusal = λ y q. rw (← one_refusal {A = ℕ} x y q) for;
+      }
+
+  pub text_refused : (x : Refusal) → verdict s ≡ Err x → TextWritten text most s b (Err x) b
+  text_refused x e = refused x (room_refused text s (length b) x e) (of_log (log-refusal s x e))
+
+  module _ (e : verdict s ≡ Ok tt) where
+    pub text_short : (x : Refusal) → ground ShortBuffer NoList 0 (ltb (length b) size) ≡ Err x → TextWritten text most s b (Err x) b
+    text_short x f = refused x (for-room text s (length b) e ∙ f) (refused_short text s (length b) e x f)
+
+    pub text_put : size ≤ length b → size ≤ most → (r : ℕ) (a : List ℕ) → Put (text (decode s)) b 0 r a → TextWritten text most s b (Ok r) a
+    unfolding text_written
+    text_put fits few r a p =
+        let accepts = room_enough text s (length b) e fits in
+        let part : text_written text s (length b) ≡ text (decode s) = ap (λ (w : Verdict). written_by w (text (decode s))) accepts in
+        let long : r ≡ size = p.next ∙ zero-add size in
+        record {
+          answer = rw (accepts, long) refl;
+          bytes = rw part (p.bytes ∙ written-front b (text (decode s)));
+          within = λ n q. let same = one_answer r n q in (omega (arith, same, long), omega (arith, same, long));
+          unchanged = λ y q. absurd (never r y q);
+          refusal = λ y q. absurd (never r y q);
+        }
+
+-- ---- the listing of credited units
+
+module _ (s : List ℕ) (e : verdict s ≡ Ok tt) where
+  counts : ((header_of s).standards ≤ 512) × ((header_of s).units ≤ 2000)
+  unfolding verdict
+  counts = let n = counted s (header_of s) refl (then-left (header_grounds s) (record_grounds (decode s)) e) in (n.counts.1, n.counts.2)
+
+  pub standards_few : (header_of s).standards ≤ 512
+  standards_few = counts.0
+
+  -- 2,000 records of at most 65,535 units: nine digits
+  pub credits_low : (i : ℕ) → i < 512 → get_or (credits_of (decode s)) i 0 < 1000000000
+  unfolding decode credits_of credited_to
+  credits_low i h =
+      let head = header_of s in
+      rw (up_to_at (credited_to (decode s)) 512 i 0 h)
+      (omega (arith, judged_low (λ u. u.actual) (decode s).standards (unit_at s head) (λ k. (unit-fits s (80 + 48 * head.states + 80 * head.standards + 88 * k)).1.1.1.0) head.units i, counts.1))
+
+  pub lists_credits : joined (λ i. credit_line i (get_or (credits_of (decode s)) i 0)) (header_of s).standards ≡ credit_listing (decode s)
+  unfolding credit_listing credits_of decode
+  lists_credits =
+      rw (length_up_to (standard_at s (header_of s)) (header_of s).standards)
+      (joined_same _ _ (header_of s).standards (λ i h. ap (credit_line i) (up_to_at (credited_to (decode s)) 512 i 0 (omega (arith, standards_few)))))
