@@ -15,11 +15,10 @@ use Rattle.rules.specs.declared.Refusal.{Refusal}
 use Rattle.rules.specs.declared.Ground.TheVariants.{ShortBuffer}
 use Rattle.rules.specs.declared.LogList.TheVariants.{NoList}
 use Rattle.rules.specs.Grounds.{Verdict, ground}
-use Rattle.rules.specs.Answers.{answer_of}
 use Rattle.rules.specs.Credited.{credited_to, credits_of}
 use Rattle.rules.specs.Verdict.{verdict, header_grounds, record_grounds}
 use Rattle.rules.proofs.FirstGround.{then-left}
-use Rattle.rules.proofs.Given.{never, one_answer, one_refusal}
+use Rattle.rules.proofs.Given.{never, given_refused, given_answered}
 use Rattle.rules.proofs.KnownRefusals.{log-refusal}
 use Rattle.filling.specs.Buffer.{Put}
 use Rattle.filling.proofs.Written.{written-front}
@@ -43,11 +42,9 @@ module _ (text : Log → List ℕ) (most : ℕ) (s b : List ℕ) where
   refused x e for =
       let part : text_written text s (length b) ≡ [] = ap (λ (w : Verdict). written_by w (text (decode s))) e in
       record {
-        answer = ap (λ (w : Verdict). answer_of w size) (sym e);
+        given = given_refused (verdict_for_text text s (length b)) size (λ n. (n ≤ length b) × (n ≤ most)) (ForText text s (length b)) x e for;
         bytes = rw part;
-        within = λ n q. absurd (never n x (sym q));
         unchanged = λ y q. refl;
-        refusal = λ y q. rw (← one_refusal {A = ℕ} x y q) for;
       }
 
   pub text_refused : (x : Refusal) → verdict s ≡ Err x → TextWritten text most s b (Err x) b
@@ -64,11 +61,9 @@ module _ (text : Log → List ℕ) (most : ℕ) (s b : List ℕ) where
         let part : text_written text s (length b) ≡ text (decode s) = ap (λ (w : Verdict). written_by w (text (decode s))) accepts in
         let long : r ≡ size = p.next ∙ zero-add size in
         record {
-          answer = rw (accepts, long) refl;
+          given = given_answered (verdict_for_text text s (length b)) size (λ n. (n ≤ length b) × (n ≤ most)) (ForText text s (length b)) r accepts long (fits, few);
           bytes = rw part (p.bytes ∙ written-front b (text (decode s)));
-          within = λ n q. let same = one_answer r n q in (omega (arith, same, long), omega (arith, same, long));
           unchanged = λ y q. absurd (never r y q);
-          refusal = λ y q. absurd (never r y q);
         }
 
 -- ---- the listing of credited units

@@ -1,10 +1,10 @@
 -- The listing of credited units, as bytes, and what a call that writes a text about a log into a lent buffer promises. Definitions only.
 use Rattle.std.specs.Prelude.{◌≡◌, List, ◌++◌, ℕ, ◌≤◌, length, drop}
 use Rattle.std.specs.declared.result.Result.{Result}
-use Rattle.std.specs.declared.result.Result.TheVariants.{Ok, Err}
+use Rattle.std.specs.declared.result.Result.TheVariants.{Err}
 use Rattle.records.specs.Log.{Log, decode}
 use Rattle.rules.specs.declared.Refusal.{Refusal}
-use Rattle.rules.specs.Answers.{answer_of}
+use Rattle.rules.specs.Answers.{Given}
 use Rattle.rules.specs.Credited.{credited_to}
 use Rattle.report.specs.Text.{ascii}
 use Rattle.report.specs.Report.{decimal, joined}
@@ -28,8 +28,6 @@ text_written text s room = written_by (verdict_for_text text s room) (text (deco
 
 -- the text's length is answered, or the refusal, since 0 bytes may be a text; it stands at the front of the buffer, and the bytes behind it, or all, are as they were
 pub record TextWritten (text : Log → List ℕ) (most : ℕ) (s before : List ℕ) (r : Result ℕ Refusal) (after : List ℕ) : Type 0 where
-  pub answer : r ≡ answer_of (verdict_for_text text s (length before)) (length (text (decode s)))
+  pub given : Given (verdict_for_text text s (length before)) (length (text (decode s))) (λ n. (n ≤ length before) × (n ≤ most)) (ForText text s (length before)) r
   pub bytes : after ≡ text_written text s (length before) ++ drop (length (text_written text s (length before))) before
-  pub within : (n : ℕ) → r ≡ Ok n → (n ≤ length before) × (n ≤ most)
   pub unchanged : (x : Refusal) → r ≡ Err x → after ≡ before
-  pub refusal : (x : Refusal) → r ≡ Err x → ForText text s (length before) x
