@@ -1,10 +1,10 @@
 // Arrays, a flag and numbers, since C has no Result. An answer told to C: a flag, the refusal's three numbers, and the answer's numbers in arrays of a fixed size, which a refusal leaves as they were.
 #![tactic(auto)]
 
-ghost use Rattle.std.specs.Prelude.{◌≡◌, [], ◌∷◌, MatchResult};
+ghost use Rattle.std.specs.Prelude.{◌≡◌, [], ◌∷◌, MatchResult, MatchOption};
 ghost use Rattle.std.specs.Float.{nan};
 ghost use Rattle.rules.specs.Answers.{verdict_of};
-ghost use Rattle.telling.specs.Arrays.{ratio_of, base_of, ratios_of, bases_of};
+ghost use Rattle.telling.specs.Arrays.{refusal_of, ratio_of, base_of, ratios_of, bases_of};
 ghost use Rattle.telling.specs.Told.{Told};
 
 use e79::Figures;
@@ -41,6 +41,23 @@ pub fn tell_numbers<T: Into<[u64; N]>, const N: usize>(
             tell(Ok(()), refusal)
         }
         Err(x) => tell(Err(x), refusal),
+    }
+}
+
+// An answer of so many whole numbers, where there is one: 2 says that there is none.
+pub fn tell_found<T: Into<[u64; N]>, const N: usize>(
+    answer: Result<Option<T>, Refusal>,
+    numbers: &mut [u64; N],
+    refusal: &mut [u64; 3],
+) -> u32
+    ensures flag { MatchResult answer (λ o. MatchOption o (result ≡ 2) (λ t. result ≡ 1)) (λ x. result ≡ 0) }
+    ensures why { refusal.new ≡ refusal_of (verdict_of answer) }
+    ensures numbers { MatchResult answer (λ o. MatchOption o (numbers.new ≡ numbers.old) (λ t. T.converts t numbers.new)) (λ x. numbers.new ≡ numbers.old) }
+{
+    match answer {
+        Ok(Some(t)) => tell_numbers(Ok(t), numbers, refusal),
+        Ok(None) => 1 + tell(Ok(()), refusal),
+        Err(x) => tell_numbers::<T, N>(Err(x), numbers, refusal),
     }
 }
 
@@ -112,7 +129,7 @@ fn alone(position: usize) -> [u64; 1]
     [position as u64]
 }
 
-// The position behind an added record.
+// A position in a buffer, or the length of what was written into it.
 pub fn tell_position(
     answer: Result<usize, Refusal>,
     next: &mut [u64; 1],

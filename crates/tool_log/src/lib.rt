@@ -14,6 +14,10 @@ pub use rules::StateTimes;
 // What a call is refused with.
 pub use rules::{Ground, LogList, Refusal};
 
+// The actual units credited to each standard, as numbers and as a listing, and the standard in force for a module, a recipe and a time.
+pub use crediting::{InForce, credited_units, standard_in_force};
+pub use listing::{credited_listing, print_credited};
+
 // The verdict for a buffer, the report, and what the shift program prints.
 pub use reporting::{examine, print_report, report, write_report};
 

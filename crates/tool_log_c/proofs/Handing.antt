@@ -4,6 +4,7 @@ use mathlib.Core.Path.{◌≡◌, ap, ◌∙◌, subst}
 use mathlib.Core.List.{List, [], ◌∷◌}
 use Prim.Native.Nat.{ℕ}
 use lib.Ieee.{Float}
+use Rattle.std.specs.Prelude.{Option, Some, None, MatchOption}
 use Rattle.std.specs.Result.{MatchResult}
 use Rattle.std.specs.declared.result.Result.{Result}
 use Rattle.std.specs.declared.result.Result.TheVariants.{Ok, Err}
@@ -13,12 +14,18 @@ use Rattle.e79.specs.Doubles.{figures_of}
 use Rattle.e79.specs.Accuracy.{Accurate}
 use Rattle.rules.specs.declared.Refusal.{Refusal}
 use Rattle.rules.specs.Grounds.{Verdict}
+use Rattle.records.specs.Log.{Log, decode}
+use Rattle.rules.specs.Theoretical.{in_force}
+use Rattle.rules.specs.Verdict.{verdict_on}
 use Rattle.rules.specs.Answers.{answer_of, verdict_of, Given}
 use Rattle.rules.proofs.Given.{own_verdict}
 use Rattle.writing.specs.Writing.{Entry, Added}
-use Rattle.telling.specs.Arrays.{ratios_of, bases_of}
-use Rattle.telling.specs.Told.{answer_or, Told}
-use Rattle.tool_log_c.specs.Calls.{Promised, Tells, TellsNumbers, TellsDoubles, TellsAdding}
+use Rattle.crediting.specs.declared.InForce.{InForce}
+use Rattle.crediting.specs.Calls.{used, StandardInForce}
+use Rattle.listing.specs.Listings.{TextWritten}
+use Rattle.telling.specs.Arrays.{refusal_of, ratios_of, bases_of}
+use Rattle.telling.specs.Told.{answer_or, found_flag, found_or, Told}
+use Rattle.tool_log_c.specs.Calls.{Promised, Tells, TellsNumbers, TellsDoubles, TellsAdding, TellsText, TellsInForce}
 
 -- ---- every kind of answer
 
@@ -68,5 +75,33 @@ module _ {flag : ℕ} {refusal : List ℕ} where
       → MatchResult r (λ n. next ≡ n ∷ []) (λ x. next ≡ nextBefore) → TellsAdding e before at nextBefore flag after next refusal
   adding_told a nextBefore next t m = record { told = numbers_told a.given (λ n. n ∷ []) nextBefore next t m; bytes = a.bytes }
 
+  -- a text
+  pub text_told : {text : Log → List ℕ} {most : ℕ} {s before after : List ℕ} {r : Result ℕ Refusal} → TextWritten text most s before r after → (lengthBefore length : List ℕ) → Told (verdict_of r) flag refusal
+      → MatchResult r (λ n. length ≡ n ∷ []) (λ x. length ≡ lengthBefore) → TellsText text most s before lengthBefore flag after length refusal
+  text_told w lengthBefore length t m = record { told = numbers_told w.given (λ n. n ∷ []) lengthBefore length t m; bytes = w.bytes }
+
+-- what is found
+pub found_told : {s : List ℕ} {m recipe time : ℕ} {r : Result (Option InForce) Refusal} → StandardInForce s m recipe time r → (flag : ℕ) (before after refusal : List ℕ)
+    → MatchResult r (λ o. MatchOption o (flag ≡ 2) (λ f. flag ≡ 1)) (λ x. flag ≡ 0) → refusal ≡ refusal_of (verdict_of r)
+    → MatchResult r (λ o. MatchOption o (after ≡ before) (λ f. after ≡ f.index ∷ f.time ∷ [])) (λ x. after ≡ before) → TellsInForce s m recipe time before flag after refusal
+found_told {s} {m} {recipe} {time} g flag before after refusal q why e =
+    let o = used (in_force (decode s).standards m recipe time) in
+    record {
+      flag = flagged (verdict_on s m) o (subst (λ (r : Result (Option InForce) Refusal). MatchResult r (λ o. MatchOption o (flag ≡ 2) (λ f. flag ≡ 1)) (λ x. flag ≡ 0)) g.answer q);
+      why = why ∙ ap refusal_of (ap verdict_of g.answer ∙ own_verdict (verdict_on s m) o);
+      array = held (verdict_on s m) o (subst (λ (r : Result (Option InForce) Refusal). MatchResult r (λ o. MatchOption o (after ≡ before) (λ f. after ≡ f.index ∷ f.time ∷ [])) (λ x. after ≡ before)) g.answer e);
+      known = promised g;
+    }
+  where
+    flagged : (w : Verdict) (o : Option InForce) → MatchResult (answer_of w o) (λ o. MatchOption o (flag ≡ 2) (λ f. flag ≡ 1)) (λ x. flag ≡ 0) → flag ≡ found_flag w o
+    flagged (Ok u) None p = p
+    flagged (Ok u) (Some f) p = p
+    flagged (Err x) o p = p
+
+    held : (w : Verdict) (o : Option InForce) → MatchResult (answer_of w o) (λ o. MatchOption o (after ≡ before) (λ f. after ≡ f.index ∷ f.time ∷ [])) (λ x. after ≡ before) → after ≡ found_or (λ f. f.index ∷ f.time ∷ []) w o before
+    held (Ok u) None p = p
+    held (Ok u) (Some f) p = p
+    held (Err x) o p = p
+
 -- for the check to try
-pub ruleset handing = (told_as, numbers_told, doubles_told, adding_told)
+pub ruleset handing = (told_as, numbers_told, doubles_told, adding_told, text_told, found_told)

@@ -1,7 +1,7 @@
 -- What each C function does: its flag, and what the caller's arrays hold in the end, for the verdict and the values that `tool_log` answers.
 -- Definitions only.
-use Rattle.std.specs.Prelude.{◌≡◌, List, [], ◌∷◌, ℕ, ◌+◌, ◌≤◌, length, Float}
-use Rattle.records.specs.Log.{decode}
+use Rattle.std.specs.Prelude.{◌≡◌, List, [], ◌∷◌, ◌++◌, ℕ, ◌+◌, ◌≤◌, length, drop, Float}
+use Rattle.records.specs.Log.{Log, header_of, standard_at, decode}
 use Rattle.e79.specs.declared.Quantities.{Quantities}
 use Rattle.e79.specs.Quantities.{Ordered, quantities_of}
 use Rattle.e79.specs.Doubles.{figures_of}
@@ -10,17 +10,21 @@ use Rattle.rules.specs.declared.Refusal.{Refusal}
 use Rattle.rules.specs.Grounds.{Verdict}
 use Rattle.std.specs.declared.result.Result.TheVariants.{Ok, Err}
 use Rattle.rules.specs.Quantities.{all_times, module_times, tool_times, of_module, of_tool, times_of}
+use Rattle.rules.specs.Theoretical.{in_force}
+use Rattle.rules.specs.Credited.{credits_of}
 use Rattle.rules.specs.Verdict.{verdict, verdict_on}
 use Rattle.losses.specs.Losses.{losses_of, shares_of, AddsUp}
 use Rattle.answering.specs.Calls.{OnModule}
 use Rattle.rules.specs.Refusals.{OfLog}
-use Rattle.reporting.specs.Reports.{verdict_for, ForRoom}
+use Rattle.reporting.specs.Reports.{verdict_for_text, verdict_for, ForText, ForRoom}
+use Rattle.crediting.specs.Calls.{AllCredited, used, Uses}
+use Rattle.listing.specs.Listings.{credit_listing, text_written}
 use Rattle.benchmarks.specs.Benchmarks.{benchmark_at, verdict_with}
 use Rattle.supplemental.specs.Supplemental.{supplemental_of, supplementals_of, AllRounded}
 use Rattle.supplemental.specs.Calls.{WithBenchmarks}
 use Rattle.writing.specs.Writing.{Entry, add_verdict, add_buffer, OfAdding, finish_verdict, OfFinishing}
-use Rattle.telling.specs.Arrays.{ratios_of, bases_of}
-use Rattle.telling.specs.Told.{answer_or, Told}
+use Rattle.telling.specs.Arrays.{refusal_of, ratios_of, bases_of}
+use Rattle.telling.specs.Told.{answer_or, found_flag, found_or, Told}
 
 -- what is promised of the value where the verdict accepts, and what a refusal may be
 pub record Promised (v : Verdict) (Promise : Type 0) (Allowed : Refusal → Type 0) : Type 0 where
@@ -78,11 +82,35 @@ TellsToolLosses s before r after refusal =
     let q = of_tool (decode s) in
     TellsNumbers (verdict s) (shares_of (losses_of q)) before (AddsUp q (losses_of q)) (OfLog s) r after refusal
 
+-- the actual units credited to each standard; those of all standards make the log's
+abbrev pub TellsCreditedUnits : List ℕ → List ℕ → ℕ → List ℕ → List ℕ → Type 0
+TellsCreditedUnits s before r after refusal =
+    let c = credits_of (decode s) in
+    TellsNumbers (verdict s) c before (AllCredited (decode s) c) (OfLog s) r after refusal
+
 -- the tool's four supplemental figures, each the nearest whole number and at most 10,000
 abbrev pub TellsSupplemental : List ℕ → List ℕ → List ℕ → ℕ → List ℕ → List ℕ → Type 0
 TellsSupplemental s b before r after refusal =
     let f = supplemental_of (decode s) (benchmark_at b) in
     TellsNumbers (verdict_with s b) (supplementals_of f) before (AllRounded (decode s) (benchmark_at b) f) (WithBenchmarks s b) r after refusal
+
+-- ---- a text, or what is found
+
+-- the length of a text about a log, and all of the buffer's bytes
+pub record TellsText (text : Log → List ℕ) (most : ℕ) (s before lengthBefore : List ℕ) (r : ℕ) (after told_length refusal : List ℕ) : Type 0 where
+  pub told : TellsNumbers (verdict_for_text text s (length before)) (length (text (decode s)) ∷ []) lengthBefore ((length (text (decode s)) ≤ length before) × (length (text (decode s)) ≤ most)) (ForText text s (length before)) r told_length refusal
+  pub bytes : after ≡ text_written text s (length before) ++ drop (length (text_written text s (length before))) before
+
+-- the listing of credited units
+abbrev pub TellsCreditedListing : List ℕ → List ℕ → List ℕ → ℕ → List ℕ → List ℕ → List ℕ → Type 0
+TellsCreditedListing s before lengthBefore r after told_length refusal = TellsText credit_listing 7168 s before lengthBefore r after told_length refusal
+
+-- index and time of the standard in force for a module, a recipe and a time
+pub record TellsInForce (s : List ℕ) (m recipe time : ℕ) (before : List ℕ) (r : ℕ) (after refusal : List ℕ) : Type 0 where
+  pub flag : r ≡ found_flag (verdict_on s m) (used (in_force (decode s).standards m recipe time))
+  pub why : refusal ≡ refusal_of (verdict_on s m)
+  pub array : after ≡ found_or (λ f. f.index ∷ f.time ∷ []) (verdict_on s m) (used (in_force (decode s).standards m recipe time)) before
+  pub known : Promised (verdict_on s m) (Uses (standard_at s (header_of s)) (header_of s).standards m recipe time (used (in_force (decode s).standards m recipe time))) (OnModule s m)
 
 -- ---- doubles
 

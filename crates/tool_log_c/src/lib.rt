@@ -3,7 +3,7 @@
 #![tactic(auto, using(crate::proofs::Handing::handing))]
 
 ghost use Rattle.reporting.specs.Reports.{Written};
-ghost use Rattle.tool_log_c.specs.Calls.{TellsVerdict, TellsModuleTimes, TellsToolTimes, TellsModuleQuantities, TellsToolQuantities, TellsModuleFigures, TellsToolFigures, TellsModuleLosses, TellsToolLosses, TellsSupplemental, TellsAdding, TellsFinishing};
+ghost use Rattle.tool_log_c.specs.Calls.{TellsVerdict, TellsModuleTimes, TellsToolTimes, TellsModuleQuantities, TellsToolQuantities, TellsModuleFigures, TellsToolFigures, TellsModuleLosses, TellsToolLosses, TellsCreditedUnits, TellsCreditedListing, TellsInForce, TellsSupplemental, TellsAdding, TellsFinishing};
 ghost use Rattle.writing.specs.Writing.{header_entry, state_entry, standard_entry, unit_entry};
 
 // ---- the verdict and the report
@@ -123,6 +123,52 @@ pub extern "C" fn tl_tool_losses(log: &[u8], losses: &mut [u64; 5], refusal: &mu
     ensures { TellsToolLosses log.now losses.old result losses.new refusal.new }
 {
     telling::tell_numbers(tool_log::tool_losses(log), losses, refusal)
+}
+
+// ---- which time was used
+
+// The actual units credited to each standard, by its index; 0 where the log has no standard.
+#[unsafe(no_mangle)]
+pub extern "C" fn tl_credited_units(
+    log: &[u8],
+    units: &mut [u64; 512],
+    refusal: &mut [u64; 3],
+) -> u32
+    ensures { TellsCreditedUnits log.now units.old result units.new refusal.new }
+{
+    telling::tell_numbers(tool_log::credited_units(log), units, refusal)
+}
+
+// Writes the listing of credited units to the front of the buffer.
+#[unsafe(no_mangle)]
+pub extern "C" fn tl_credited_listing(
+    log: &[u8],
+    buf: &mut [u8],
+    length: &mut [u64; 1],
+    refusal: &mut [u64; 3],
+) -> u32
+    ensures { TellsCreditedListing log.now buf.old length.old result buf.new length.new refusal.new }
+{
+    telling::tell_position(tool_log::credited_listing(log, buf), length, refusal)
+}
+
+// The standard in force for a module, a recipe and a time: 2 says that none is.
+#[unsafe(no_mangle)]
+pub extern "C" fn tl_standard_in_force(
+    log: &[u8],
+    m: usize,
+    recipe: usize,
+    time: u64,
+    standard: &mut [u64; 2],
+    refusal: &mut [u64; 3],
+) -> u32
+    ensures { TellsInForce log.now m recipe time standard.old result standard.new refusal.new }
+{
+    telling::tell_found(
+        tool_log::standard_in_force(log, m, recipe, time),
+        standard,
+        refusal,
+    )
 }
 
 // ---- supplemental figures
