@@ -1,4 +1,5 @@
-// One command for a log: its report, its state times, its quantities, its losses, its supplemental figures, and what a refusal means.
+// One command for a log: its report, its state times, its quantities, its losses, the units credited to each standard, its supplemental figures, and what a
+// refusal means.
 // That a name is at most 4,096 bytes stands in four contracts: see `saying`.
 #![tactic(auto)]
 
@@ -16,6 +17,7 @@ toollog report [LOG]                  the four efficiencies and OEE of each modu
 toollog times [LOG]                   their six state times, in ms\n\
 toollog quantities [LOG]              their total time, uptime, production time and theoretical times, in ms\n\
 toollog losses [LOG]                  what total time went to: availability, operational, rate and quality loss, and OEE, which make 1.0000\n\
+toollog credited [LOG]                the actual units credited to each standard: its index and its units, a line for each\n\
 toollog supplemental LOG BENCHMARKS   the four supplemental figures of the tool: reference, optimized, value-added, total effective units\n\
 toollog explain N                     what refusal N means, and what to look for\n\
 toollog help                          this text\n\
@@ -73,7 +75,7 @@ fn complains<F: FnOnce(&mut [u8; 512]) -> usize>(rt: HostRuntime, name: &[u8], p
 
 // ---- what is asked of a log
 
-// The three that print stay three: their arrays differ in size, and a closure's bound that names a const parameter gets no proof.
+// The four that print stay four: their arrays differ in size, and a closure's bound that names a const parameter gets no proof.
 fn print_report(rt: HostRuntime, log: &[u8]) {
     let mut space = [0u8; 2494];
     let size = tool_log::print_report(log, &mut space);
@@ -83,6 +85,12 @@ fn print_report(rt: HostRuntime, log: &[u8]) {
 fn print_table(rt: HostRuntime, table: Table, log: &[u8]) {
     let mut space = [0u8; 5000];
     let size = tool_log::print_table(table, log, &mut space);
+    put_out(rt, &space[..size]);
+}
+
+fn print_credited(rt: HostRuntime, log: &[u8]) {
+    let mut space = [0u8; 7168];
+    let size = tool_log::print_credited(log, &mut space);
     put_out(rt, &space[..size]);
 }
 
@@ -201,6 +209,7 @@ fn run(rt: HostRuntime, word: &[u8]) {
         b"times" => answer(rt, |log| print_table(rt, Table::Times, log)),
         b"quantities" => answer(rt, |log| print_table(rt, Table::Quantities, log)),
         b"losses" => answer(rt, |log| print_table(rt, Table::Losses, log)),
+        b"credited" => answer(rt, |log| print_credited(rt, log)),
         b"supplemental" => supplemental(rt),
         b"explain" => explain(rt),
         b"help" => {
