@@ -1,6 +1,6 @@
 /*
  * tool_log.h: the packed log of a semiconductor tool, answered: state times, the quantities, efficiencies, losses and supplemental figures of SEMI
- * E79, and the shift report; and written, record by record.
+ * E79, which standards its units were judged by, and the shift report; and written, record by record.
  *
  * Link libtool_log_c.a (x86-64 Linux). It needs nothing but C's memcpy and memset.
  *
@@ -10,6 +10,7 @@
  * What a function answers
  *   1  answered (tl_examine and tl_finish_log: accepted; tl_put_...: added). The answer's arrays are filled, and `refusal` becomes three zeros.
  *   0  refused. `refusal` holds number, list and place, and every other array keeps its content.
+ *   2  none is in force (tl_standard_in_force alone). `refusal` becomes three zeros, and every other array keeps its content.
  *   tl_report alone answers a length instead, and takes no `refusal`: tl_examine gives the reason.
  *
  * What a caller can still do wrong
@@ -37,7 +38,10 @@ extern "C" {
 #define TL_LONGEST_LOG 63130
 /* The benchmarks of 512 standards, the most that a log has. Of longer ones a byte more is enough too. */
 #define TL_LONGEST_BENCHMARKS 7168
+/* A `buf_len` that suffices for the listing of credited units of every log: a line has at most 14 bytes. */
+#define TL_CREDITED_LISTING_ROOM 7168
 #define TL_MOST_MODULES 64
+#define TL_MOST_STANDARDS 512
 
 /* Entries of `times`, in ms: the six states of SEMI E10. X(entry, name) */
 #define TL_STATES(X) \
@@ -74,6 +78,9 @@ enum { TL_BASED = 4 };
 
 /* Entries of `losses`: TL_AVAILABILITY to TL_OEE, the four losses and the OEE, in ten-thousandths of total time. */
 enum { TL_LOSSES = 5 };
+
+/* Entries of `standard`: its index in the log's list, and its theoretical time in ms. */
+enum { TL_INDEX, TL_THEORETICAL, TL_STANDARD };
 
 /* Entries of the `figures` of tl_supplemental, in ten-thousandths. */
 enum { TL_REFERENCE, TL_OPTIMIZED, TL_VALUE_ADDED, TL_TOTAL_EFFECTIVE_UNITS, TL_SUPPLEMENTAL };
@@ -200,10 +207,33 @@ uint32_t tl_module_losses(const uint8_t *log, size_t log_len, size_t module, uin
 uint32_t tl_tool_losses(const uint8_t *log, size_t log_len, uint64_t losses[5], uint64_t refusal[3]);
 
 /*
+ * The actual units credited to each standard, by its index in the log's list. Each unit record is judged by one standard, the one in force for its
+ * module and recipe at its time, which is credited with its actual units: so the credited units of all standards add up to the actual units of the
+ * log. Entries of standards that the log does not have become 0. Refused where the log is.
+ */
+uint32_t tl_credited_units(const uint8_t *log, size_t log_len, uint64_t units[512], uint64_t refusal[3]);
+
+/*
+ * Writes the listing of credited units to the front of `buf`, and how many bytes it has into length[0]. No 0 byte is added. The bytes of `buf` behind
+ * the listing keep their content.
+ * The listing is text: for each standard, in the log's sequence, a line of its index, a space and its credited units, 0 too. It has no heading, so
+ * that of a log without standards has 0 bytes.
+ * Refused where the log is, and then with 18: the listing is longer than the buffer.
+ */
+uint32_t tl_credited_listing(const uint8_t *log, size_t log_len, uint8_t *buf, size_t buf_len, uint64_t length[1], uint64_t refusal[3]);
+
+/*
+ * The standard in force for a module, a recipe and a time: of the module's standards for the recipe the one with the latest start at or before the
+ * time, which may be past the period. None is in force ahead of the first start, nor for a recipe that the module has no standard for, as every one
+ * above 1,023. Refused where the log is.
+ */
+uint32_t tl_standard_in_force(const uint8_t *log, size_t log_len, size_t module, size_t recipe, uint64_t time, uint64_t standard[2],
+                              uint64_t refusal[3]);
+
+/*
  * The supplemental figures of the tool, in ten-thousandths of its total time, rounded to the nearest, an exact half going up. None is over 10,000.
  *   reference, optimized, value-added   over all standards, summed: effective units judged by the standard x that time of its benchmark
  *   total effective units               over all standards, summed: total effective units of its benchmark x the standard's theoretical time
- * A unit record is judged by the standard in force for its module and recipe at its time.
  *
  * The benchmarks are lent as the log is: one for each standard of the log, in the standards' sequence, 14 bytes each. A benchmark is its reference,
  * optimized and value-added time, in ms for each unit, and its total effective units, 27 bits each, most significant bit first, and then 4 spare bits,
