@@ -70,6 +70,30 @@ struct written write_two_modules(const uint64_t standards[][4], size_t count)
     return all_added(log, added, at[0]);
 }
 
+struct written write_revisions(void)
+{
+    static const uint64_t standards[8][4] = {
+        {0, 3, 0, 5},    {0, 3, 4000, 4}, {0, 3, 6000, 134217727}, {0, 3, 8000, 2},
+        {0, 7, 2000, 2}, {1, 3, 4000, 6}, {1, 1023, 9999, 1},      {1, 1023, 99999, 3},
+    };
+    static const uint64_t units[10][5] = {
+        {0, 3, 0, 10, 9},      {0, 3, 3999, 20, 15}, {0, 3, 4000, 30, 1}, {1, 3, 4000, 5, 5},        {0, 3, 5999, 40, 0},
+        {0, 3, 8000, 100, 99}, {0, 7, 9998, 7, 0},   {0, 3, 9999, 1, 1},  {1, 1023, 9999, 65535, 0}, {1, 1023, 49999, 34435, 34435},
+    };
+    struct written log = {{0}, 0};
+    uint64_t at[1] = {0}, refusal[3];
+    uint32_t added;
+
+    added = tl_put_header(log.bytes, sizeof log.bytes, at[0], 100000, 2, 2, 8, 10, at, refusal);
+    for (uint64_t m = 0; m < 2; m++)
+        added &= tl_put_state(log.bytes, sizeof log.bytes, at[0], m, 0, 0, at, refusal);
+    for (int i = 0; i < 8; i++)
+        added &= tl_put_standard(log.bytes, sizeof log.bytes, at[0], standards[i][0], standards[i][1], standards[i][2], standards[i][3], at, refusal);
+    for (int i = 0; i < 10; i++)
+        added &= tl_put_unit(log.bytes, sizeof log.bytes, at[0], units[i][0], units[i][1], units[i][2], units[i][3], units[i][4], at, refusal);
+    return all_added(log, added, at[0]);
+}
+
 /* The state of a module at a time: productive, then standby, then under repair. */
 static uint64_t code_at(const uint64_t parts[5], uint64_t time)
 {

@@ -6,7 +6,7 @@
 #include <stdint.h>
 
 struct written {
-    uint8_t bytes[128];
+    uint8_t bytes[256];
     size_t length;
 };
 
@@ -19,6 +19,10 @@ struct written write_r1_3(void);
 /* Ten productive milliseconds of two modules with these standards: module, recipe, start, theoretical time. At time 5 each module reports two units
  * of recipe 4, one of them effective. */
 struct written write_two_modules(const uint64_t standards[][4], size_t count);
+
+/* A hundred seconds of two modules with revisions: two that judge no unit, one of them from the last ms on, a unit 1 ms ahead of a start and one at
+ * it, one recipe at both modules, and actual units that are not the effective ones. */
+struct written write_revisions(void);
 
 /* One or two modules whose period splits, in ms, into the numerators of their losses and OEE: availability, operational, rate, quality, OEE. Each
  * module's five make the period. */

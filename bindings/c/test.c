@@ -1,6 +1,6 @@
 /* Tests every function of tool_log.h: the reading ones on case W, a log with no uptime, standards of two modules, and bytes that are refused; the
- * losses on shares with equal remainders too; the supplemental figures on R1-3 and on benchmarks with every fault; the writing ones on every width,
- * on every position that matters, and on bytes worked out by hand. */
+ * losses on shares with equal remainders too; credited units and the standard in force on revisions; the supplemental figures on R1-3 and on
+ * benchmarks with every fault; the writing ones on every width, on every position that matters, and on bytes worked out by hand. */
 #include <inttypes.h>
 #include <math.h>
 #include <stdio.h>
@@ -103,7 +103,7 @@ static uint32_t supplemental(const uint8_t *log, size_t log_len, const uint8_t *
 static void refused(const uint8_t *bytes, size_t length, uint64_t number, uint64_t list, uint64_t place)
 {
     uint8_t *log = copied(bytes, length), based[4], *buf = malloc(TL_LONGEST_REPORT);
-    uint64_t times[6], quantities[5], losses[5], four[4], why[3];
+    uint64_t times[6], quantities[5], losses[5], units[512], listed[1], standard[2], four[4], why[3];
     double figures[6];
 
     if (!buf)
@@ -112,6 +112,9 @@ static void refused(const uint8_t *bytes, size_t length, uint64_t number, uint64
     memset(times, 0xa5, sizeof times);
     memset(quantities, 0xa5, sizeof quantities);
     memset(losses, 0xa5, sizeof losses);
+    memset(units, 0xa5, sizeof units);
+    memset(listed, 0xa5, sizeof listed);
+    memset(standard, 0xa5, sizeof standard);
     memset(figures, 0xa5, sizeof figures);
     memset(based, 0xa5, sizeof based);
 
@@ -125,16 +128,22 @@ static void refused(const uint8_t *bytes, size_t length, uint64_t number, uint64
         CHECK(tl_module_quantities(log, length, m, quantities, why) == 0 && is(why, number, list, place));
         CHECK(tl_module_figures(log, length, m, figures, based, why) == 0 && is(why, number, list, place));
         CHECK(tl_module_losses(log, length, m, losses, why) == 0 && is(why, number, list, place));
+        CHECK(tl_standard_in_force(log, length, m, 0, 0, standard, why) == 0 && is(why, number, list, place));
     }
     CHECK(tl_tool_state_times(log, length, times, why) == 0 && is(why, number, list, place));
     CHECK(tl_tool_quantities(log, length, quantities, why) == 0 && is(why, number, list, place));
     CHECK(tl_tool_figures(log, length, figures, based, why) == 0 && is(why, number, list, place));
     CHECK(tl_tool_losses(log, length, losses, why) == 0 && is(why, number, list, place));
+    CHECK(tl_standard_in_force(log, length, SIZE_MAX, SIZE_MAX, UINT64_MAX, standard, why) == 0 && is(why, number, list, place));
+    CHECK(tl_credited_units(log, length, units, why) == 0 && is(why, number, list, place));
+    CHECK(tl_credited_listing(log, length, buf, TL_LONGEST_REPORT, listed, why) == 0 && is(why, number, list, place));
+    CHECK(tl_credited_listing(log, length, buf, 0, listed, why) == 0 && is(why, number, list, place));
     for (size_t n = 0; n < 15; n += 7)
         CHECK(supplemental(log, length, buf, n, four, why) == 0 && is(why, number, list, place));
 
     CHECK(all(buf, TL_LONGEST_REPORT, 0xa5));
     CHECK(all(times, sizeof times, 0xa5) && all(quantities, sizeof quantities, 0xa5) && all(losses, sizeof losses, 0xa5));
+    CHECK(all(units, sizeof units, 0xa5) && all(listed, sizeof listed, 0xa5) && all(standard, sizeof standard, 0xa5));
     CHECK(all(figures, sizeof figures, 0xa5) && all(based, sizeof based, 0xa5));
     free(buf);
     free(log);
@@ -144,7 +153,7 @@ static void case_w(void)
 {
     size_t length = sizeof week;
     uint8_t *log = copied(week, length), based[4], *buf;
-    uint64_t times[6], quantities[5], losses[5], why[3] = {9, 9, 9};
+    uint64_t times[6], quantities[5], losses[5], standard[2], why[3] = {9, 9, 9};
     double figures[6];
 
     /* the report, in a buffer that it fills, in a longer one, and in one that is a byte short */
@@ -187,14 +196,16 @@ static void case_w(void)
         memset(times, 0xa5, sizeof times);
         memset(quantities, 0xa5, sizeof quantities);
         memset(losses, 0xa5, sizeof losses);
+        memset(standard, 0xa5, sizeof standard);
         memset(figures, 0xa5, sizeof figures);
         memset(based, 0xa5, sizeof based);
         CHECK(tl_module_state_times(log, length, strays[i], times, why) == 0 && is(why, TL_STRAY_MODULE, 0, strays[i]));
         CHECK(tl_module_quantities(log, length, strays[i], quantities, why) == 0 && is(why, TL_STRAY_MODULE, 0, strays[i]));
         CHECK(tl_module_figures(log, length, strays[i], figures, based, why) == 0 && is(why, TL_STRAY_MODULE, 0, strays[i]));
         CHECK(tl_module_losses(log, length, strays[i], losses, why) == 0 && is(why, TL_STRAY_MODULE, 0, strays[i]));
+        CHECK(tl_standard_in_force(log, length, strays[i], 0, 0, standard, why) == 0 && is(why, TL_STRAY_MODULE, 0, strays[i]));
         CHECK(all(times, sizeof times, 0xa5) && all(quantities, sizeof quantities, 0xa5) && all(losses, sizeof losses, 0xa5));
-        CHECK(all(figures, sizeof figures, 0xa5) && all(based, sizeof based, 0xa5));
+        CHECK(all(standard, sizeof standard, 0xa5) && all(figures, sizeof figures, 0xa5) && all(based, sizeof based, 0xa5));
     }
     free(log);
 }
@@ -409,6 +420,124 @@ static void losses_of_fractions(void)
         log = write_parts(&rows[i].parts, 1);
         losses_are(&log, 0, rows[i].due);
         losses_are(&log, TOOL, rows[i].due);
+    }
+}
+
+/* ---- the standards that units were judged by */
+
+/* The credited units of the log's standards, and 0 for those that it does not have; nothing beside the 512 is written. */
+static void credited_are(const struct written *log, const uint64_t due[], size_t count)
+{
+    uint8_t *lent_log = copied(log->bytes, log->length);
+    uint64_t lent[1 + TL_MOST_STANDARDS + 1], why[3] = {9, 9, 9};
+
+    memset(lent, 0xa5, sizeof lent);
+    CHECK(tl_credited_units(lent_log, log->length, lent + 1, why) == 1 && is(why, 0, 0, 0));
+    CHECK(all(lent, sizeof *lent, 0xa5) && all(lent + 1 + TL_MOST_STANDARDS, sizeof *lent, 0xa5));
+    CHECK(!memcmp(lent + 1, due, count * sizeof *lent) && all(lent + 1 + count, (TL_MOST_STANDARDS - count) * sizeof *lent, 0));
+    free(lent_log);
+}
+
+/* The listing in a buffer of just this length: written, or refused where the buffer is shorter. Nothing else changes. */
+static void listed_in(const struct written *log, const char *due, size_t room)
+{
+    static uint8_t filled[TL_CREDITED_LISTING_ROOM];
+    const size_t length = strlen(due);
+    uint8_t *lent_log = copied(log->bytes, log->length), *buf;
+    uint64_t lent[3], why[3] = {9, 9, 9};
+
+    memset(filled, 0xa5, sizeof filled);
+    memset(lent, 0xa5, sizeof lent);
+    buf = copied(filled, room);
+    if (room < length) {
+        CHECK(tl_credited_listing(lent_log, log->length, buf, room, lent + 1, why) == 0 && is(why, TL_SHORT_BUFFER, 0, 0));
+        CHECK(all(buf, room, 0xa5) && all(lent, sizeof lent, 0xa5));
+    } else {
+        CHECK(tl_credited_listing(lent_log, log->length, buf, room, lent + 1, why) == 1 && is(why, 0, 0, 0));
+        CHECK(lent[1] == length && !memcmp(buf, due, length) && all(buf + length, room - length, 0xa5));
+        CHECK(all(lent, sizeof *lent, 0xa5) && all(lent + 2, sizeof *lent, 0xa5));
+    }
+    free(buf);
+    free(lent_log);
+}
+
+static void listing_is(const struct written *log, const char *due)
+{
+    for (size_t room = 0; room < strlen(due) + 3; room++)
+        listed_in(log, due, room);
+    listed_in(log, due, TL_CREDITED_LISTING_ROOM);
+}
+
+/* Of revisions, each recipe of R1-3, each module of case W, and a log without standards. */
+static void credited(void)
+{
+    const uint64_t revisions[8] = {30, 70, 0, 101, 7, 5, 99970, 0}, recipes[4] = {1500, 600, 800, 500}, modules[3] = {280, 290, 150};
+    struct written log = write_revisions();
+
+    credited_are(&log, revisions, 8);
+    listing_is(&log, "0 30\n1 70\n2 0\n3 101\n4 7\n5 5\n6 99970\n7 0\n");
+    log = write_r1_3();
+    credited_are(&log, recipes, 4);
+    listing_is(&log, "0 1500\n1 600\n2 800\n3 500\n");
+    log = write_case_w(3600000);
+    credited_are(&log, modules, 3);
+    listing_is(&log, "0 280\n1 290\n2 150\n");
+    log = write_idle();
+    credited_are(&log, modules, 0);
+    listing_is(&log, "");
+}
+
+/* Stands for the standard in force, where none is. */
+enum { NONE = TL_MOST_STANDARDS };
+
+/* Nothing beside the two numbers is written, and where none is in force they are not. */
+static void in_force_is(const struct written *log, size_t module, size_t recipe, uint64_t time, uint64_t index, uint64_t theoretical)
+{
+    uint8_t *lent_log = copied(log->bytes, log->length);
+    uint64_t lent[4], why[3] = {9, 9, 9};
+    uint32_t answer;
+
+    memset(lent, 0xa5, sizeof lent);
+    answer = tl_standard_in_force(lent_log, log->length, module, recipe, time, lent + 1, why);
+    CHECK(is(why, 0, 0, 0));
+    if (index == NONE) {
+        CHECK(answer == 2 && all(lent, sizeof lent, 0xa5));
+    } else {
+        CHECK(answer == 1 && lent[1 + TL_INDEX] == index && lent[1 + TL_THEORETICAL] == theoretical);
+        CHECK(all(lent, sizeof *lent, 0xa5) && all(lent + 3, sizeof *lent, 0xa5));
+    }
+    free(lent_log);
+}
+
+/* At each start, 1 ms ahead of it and past the period. Cut to fewer bits, the last of `past` would be 0, and some recipes 3. */
+static void in_force(void)
+{
+    static const struct {
+        size_t module, recipe;
+        uint64_t time, index, theoretical;
+    } rows[] = {
+        {0, 3, 0, 0, 5},         {0, 3, 1, 0, 5},            {0, 3, 3999, 0, 5},         {0, 3, 4000, 1, 4},         {0, 3, 4001, 1, 4},
+        {0, 3, 5999, 1, 4},      {0, 3, 6000, 2, 134217727}, {0, 3, 7999, 2, 134217727}, {0, 3, 8000, 3, 2},         {0, 3, 9999, 3, 2},
+        {0, 7, 0, NONE, 0},      {0, 7, 1999, NONE, 0},      {0, 7, 2000, 4, 2},         {0, 7, 9999, 4, 2},         {1, 3, 0, NONE, 0},
+        {1, 3, 3999, NONE, 0},   {1, 3, 4000, 5, 6},         {1, 3, 8000, 5, 6},         {1, 1023, 9998, NONE, 0},   {1, 1023, 9999, 6, 1},
+        {1, 1023, 99998, 6, 1},  {1, 1023, 99999, 7, 3},     {1, 7, 99999, NONE, 0},     {0, 1023, 99999, NONE, 0},
+    };
+    const uint64_t past[4] = {100000, 0x7ffffffff, UINT64_MAX, UINT64_C(1) << 63};
+    const size_t recipes[8] = {0, 2, 4, 1022, 1024 + 3, 65536 + 3, ((size_t)1 << 32) + 3, SIZE_MAX};
+    const struct written log = write_revisions(), idle = write_idle();
+
+    for (size_t i = 0; i < sizeof rows / sizeof *rows; i++)
+        in_force_is(&log, rows[i].module, rows[i].recipe, rows[i].time, rows[i].index, rows[i].theoretical);
+    for (int i = 0; i < 4; i++) {
+        in_force_is(&log, 0, 3, past[i], 3, 2);
+        in_force_is(&log, 0, 7, past[i], 4, 2);
+        in_force_is(&log, 1, 3, past[i], 5, 6);
+        in_force_is(&log, 1, 1023, past[i], 7, 3);
+        in_force_is(&idle, 0, 0, past[i], NONE, 0);
+        for (int r = 0; r < 8; r++) {
+            in_force_is(&log, 0, recipes[r], past[i], NONE, 0);
+            in_force_is(&log, 1, recipes[r], past[i], NONE, 0);
+        }
     }
 }
 
@@ -804,6 +933,8 @@ int main(void)
     standards_of_modules();
     losses_of_case_w();
     losses_of_fractions();
+    credited();
+    in_force();
     benchmarks_of_r1_3();
     first_fault();
     of_all_modules();
