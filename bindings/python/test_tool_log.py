@@ -1,6 +1,6 @@
 """Tests tool_log.py on logs packed here: case W, a log with no uptime, standards of two modules, and bytes that are refused; the losses on all shares
-of short periods too, and their picture; the supplemental figures on R1-3 and on benchmarks with every fault; and its writer on what is packed here
-too."""
+of short periods too, and their picture; credited units and the standard in force on revisions, and their table; the supplemental figures on R1-3 and
+on benchmarks with every fault; and its writer on what is packed here too."""
 
 import enum
 import fractions
@@ -11,9 +11,10 @@ import re
 import unittest
 import xml.etree.ElementTree
 
+import revisions
 import tool_log
 from losses import PARTS, picture
-from tool_log import Figures, Losses, Quantities, Refused, StateTimes, Supplemental, Writer, pack_benchmarks, supplemental, write_log
+from tool_log import Figures, InForce, Losses, Quantities, Refused, StateTimes, Supplemental, Writer, pack_benchmarks, supplemental, write_log
 
 ROOT = pathlib.Path(__file__).resolve().parent.parent.parent
 
@@ -115,11 +116,15 @@ CALLS = (
     tool_log.tool_quantities,
     tool_log.tool_figures,
     tool_log.tool_losses,
+    tool_log.credited_units,
+    tool_log.credited_listing,
     lambda log: tool_log.examine(log, 0),
     lambda log: tool_log.module_state_times(log, 1),
     lambda log: tool_log.module_quantities(log, 1),
     lambda log: tool_log.module_figures(log, 1),
     lambda log: tool_log.module_losses(log, 1),
+    lambda log: tool_log.standard_in_force(log, 1, 0, 0),
+    lambda log: tool_log.standard_in_force(log, 2**64 - 1, 2**64 - 1, 2**64 - 1),
     lambda log: supplemental(log, b""),
     lambda log: supplemental(log, b"\xa5" * 7),
     lambda log: supplemental(log, b"\xa5" * 14),
@@ -183,9 +188,22 @@ class Calls(Case):
         for m in (3, 64, 2**64 - 1):
             for call in (tool_log.module_state_times, tool_log.module_quantities, tool_log.module_figures, tool_log.module_losses):
                 self.refused(7, 0, m, call, case_w(), m)
-        for m in (-1, 2**64):
-            with self.assertRaises(ValueError):
-                tool_log.module_state_times(case_w(), m)
+            self.refused(7, 0, m, tool_log.standard_in_force, case_w(), m, 0, 0)
+
+    def test_no_64_bits(self):
+        for n in (-1, 2**64):
+            for name, call, *arguments in (
+                ("room", tool_log.examine, n),
+                ("module", tool_log.module_state_times, n),
+                ("module", tool_log.module_quantities, n),
+                ("module", tool_log.module_figures, n),
+                ("module", tool_log.module_losses, n),
+                ("module", tool_log.standard_in_force, n, 0, 0),
+                ("recipe", tool_log.standard_in_force, 0, n, 0),
+                ("time", tool_log.standard_in_force, 0, 0, n),
+            ):
+                with self.assertRaisesRegex(ValueError, f"^a {name} is from 0 to 2\\*\\*64 - 1, not {n}$"):
+                    call(case_w(), *arguments)
 
     def test_damaged(self):
         log = case_w()
@@ -230,6 +248,8 @@ class Calls(Case):
         self.assertIn(f"TL_LONGEST_REPORT {tool_log.LONGEST_REPORT}\n", header)
         self.assertIn(f"TL_LONGEST_LOG {tool_log.LONGEST_LOG}\n", header)
         self.assertIn(f"TL_LONGEST_BENCHMARKS {tool_log.LONGEST_BENCHMARKS}\n", header)
+        self.assertIn(f"TL_CREDITED_LISTING_ROOM {tool_log.CREDITED_LISTING_ROOM}\n", header)
+        self.assertIn(f"TL_MOST_STANDARDS {tool_log.MOST_STANDARDS}\n", header)
 
     def test_random_bytes(self):
         # The grounds 1 to 5 are worked out here from the header, which hardly any of these outlives.
@@ -395,6 +415,109 @@ class Pictures(Case):
         for modules in (1, 2, 64):
             cuts = [sorted(source.choices((0, 1000, 10000, source.randint(0, 10000), source.randint(0, 10000)), k=4)) for _ in range(modules + 1)]
             self.pictured(*([b - a for a, b in zip([0, *cut], [*cut, 10000])] for cut in cuts))
+
+
+# A hundred seconds of two modules: two standards judge no unit, one of them from the last ms on, a unit is 1 ms ahead of a start and one at it, and
+# both modules have recipe 3.
+R_STANDARDS = ((0, 3, 0, 5), (0, 3, 4000, 4), (0, 3, 6000, 2**27 - 1), (0, 3, 8000, 2), (0, 7, 2000, 2), (1, 3, 4000, 6), (1, 1023, 9999, 1),
+               (1, 1023, 99999, 3))
+R_UNITS = ((0, 3, 0, 10, 9), (0, 3, 3999, 20, 15), (0, 3, 4000, 30, 1), (1, 3, 4000, 5, 5), (0, 3, 5999, 40, 0), (0, 3, 8000, 100, 99),
+           (0, 7, 9998, 7, 0), (0, 3, 9999, 1, 1), (1, 1023, 9999, 65535, 0), (1, 1023, 49999, 34435, 34435))
+
+
+def productive(period, modules, standards, units):
+    """A log whose modules are productive all the period."""
+    return write_log(period, modules, [(m, 0, 0) for m in range(modules)], standards, units)
+
+
+def latest(standards, module, recipe, time):
+    """The standard in force, of all those of the module and recipe that have started."""
+    started = [(s[2], InForce(index, s[3])) for index, s in enumerate(standards) if s[:2] == (module, recipe) and s[2] <= time]
+    return max(started)[1] if started else None
+
+
+class Revisions(Case):
+    def credited_are(self, log, standards, units):
+        """The credited units and their listing are those of the standards and units that the log was made of."""
+        due = [0] * len(standards)
+        for module, recipe, time, actual, _ in units:
+            due[latest(standards, module, recipe, time).index] += actual
+        credited = tool_log.credited_units(log)
+        self.assertEqual(credited, (*due, *[0] * (512 - len(due))))
+        self.assertEqual(sum(credited), sum(actual for *_, actual, _ in units))
+        self.assertEqual(tool_log.credited_listing(log).decode(), "".join(f"{index} {n}\n" for index, n in enumerate(due)))
+
+    def test_by_hand(self):
+        log = productive(100000, 2, R_STANDARDS, R_UNITS)
+        credited = tool_log.credited_units(log)
+        self.assertEqual((type(credited), len(credited), credited[:8]), (tuple, 512, (30, 70, 0, 101, 7, 5, 99970, 0)))
+        self.assertEqual(tool_log.credited_listing(log), b"0 30\n1 70\n2 0\n3 101\n4 7\n5 5\n6 99970\n7 0\n")
+        self.assertEqual(tool_log.credited_listing(bytearray(log)), tool_log.credited_listing(log))
+        for module, recipe, time, due in (
+            (0, 3, 0, (0, 5)), (0, 3, 3999, (0, 5)), (0, 3, 4000, (1, 4)), (0, 3, 7999, (2, 2**27 - 1)), (0, 3, 8000, (3, 2)),
+            (0, 7, 1999, None), (0, 7, 2000, (4, 2)), (1, 3, 3999, None), (1, 3, 4000, (5, 6)), (1, 7, 99999, None),
+            (1, 1023, 9998, None), (1, 1023, 9999, (6, 1)), (1, 1023, 99998, (6, 1)), (1, 1023, 99999, (7, 3)), (1, 1024, 99999, None),
+        ):
+            self.assertEqual(tool_log.standard_in_force(log, module, recipe, time), due)
+        found = tool_log.standard_in_force(log, module=1, recipe=3, time=2**64 - 1)
+        self.assertEqual((found.index, found.time), (5, 6))
+        self.assertEqual(tuple(revisions.standards(log)), R_STANDARDS)
+
+    def test_no_standards(self):
+        self.credited_are(idle(), [], [])
+        self.assertEqual(tool_log.credited_listing(idle()), b"")
+        self.assertIsNone(tool_log.standard_in_force(idle(), 0, 0, 2**64 - 1))
+        self.assertEqual(list(revisions.standards(idle())), [])
+
+    def test_samples(self):
+        accepted = 0
+        for path in sorted((ROOT / "samples").glob("*.log")):
+            log = path.read_bytes()
+            try:
+                tool_log.examine(log)
+            except Refused:
+                continue
+            with self.subTest(path.name):
+                _, modules, _, listed, units = decoded(log)
+                self.credited_are(log, listed, units)
+                if modules < 4:
+                    self.assertEqual(list(revisions.standards(log)), listed)
+            accepted += 1
+        self.assertGreaterEqual(accepted, 8)
+
+    def test_most_standards(self):
+        # Revisions of one recipe, and recipes of all modules.
+        for modules, listed in (1, [(0, 3, start, 1) for start in range(512)]), (64, [(m, r, 9, 1) for m in range(64) for r in range(8)]):
+            units = [(module, recipe, start, index, 0) for index, (module, recipe, start, _) in enumerate(listed)]
+            log = productive(200000, modules, listed, units)
+            self.credited_are(log, listed, units)
+            self.assertEqual(tool_log.credited_units(log), tuple(range(512)))
+
+    def test_random_revisions(self):
+        # From one standard for each of many recipes to many revisions of one, and up to 2,000 unit records.
+        source = random.Random(20261129)
+        for _ in range(60):
+            period, modules, most = source.choice((300, 100000, 31622400000)), source.choice((1, 2, 64)), source.choice((1, 20, 512))
+            pairs = [(source.randrange(modules), source.choice((0, 3, 1023, source.randrange(1024)))) for _ in range(source.choice((1, 5, most)))]
+            drawn = {(*source.choice(pairs), source.choice((0, 7, period - 1, source.randrange(period)))) for _ in range(most)}
+            listed = [(*standard, source.choice((1, 2))) for standard in sorted(drawn)]
+            made, left = {}, [period] * modules
+            for _ in range(source.choice((0, 10, 2000))):
+                module, recipe, start, _ = source.choice(listed)
+                time = min(period - 1, max(0, start + source.choice((-1, 0, 1, source.randrange(period)))))
+                found = latest(listed, module, recipe, time)
+                if found and (time, module, recipe) not in made:
+                    actual = min(source.choice((0, 1, source.randrange(65536))), left[module] // found.time)
+                    left[module] -= actual * found.time
+                    made[time, module, recipe] = actual, source.randint(0, actual)
+            units = [(module, recipe, time, *made[time, module, recipe]) for time, module, recipe in sorted(made)]
+            log = productive(period, modules, listed, units)
+            self.credited_are(log, listed, units)
+            for module, recipe, start, _ in source.sample(listed, min(len(listed), 5)):
+                times = max(0, start - 1), start, start + 1, period - 1, period, start + 2**35, 2**63, 2**64 - 1
+                recipes = recipe, recipe ^ 1, *(recipe + 2**bit for bit in (10, 16, 32)), 2**64 - 1
+                for m, r, time in itertools.product({module, (module + 1) % modules}, recipes, times):
+                    self.assertEqual(tool_log.standard_in_force(log, m, r, time), latest(listed, m, r, time))
 
 
 def changed(i, which, value):

@@ -1,7 +1,7 @@
-"""The packed log of a semiconductor tool, answered: state times, the quantities, efficiencies, losses and supplemental figures of SEMI E79, and the
-shift report; and written.
+"""The packed log of a semiconductor tool, answered: state times, the quantities, efficiencies, losses and supplemental figures of SEMI E79, which
+standards its units were judged by, and the shift report; and written.
 
-A log, and its benchmarks, are any bytes-like object. Each call answers a dataclass, text or bytes, or raises Refused. Times are whole milliseconds.
+A log, and its benchmarks, are any bytes-like object. Each call answers numbers, text or bytes, or raises Refused. Times are whole milliseconds.
 A module is counted from 0. write_log makes a log of its records, Writer makes it record by record, and pack_benchmarks makes benchmarks.
 The shared object libtool_log.so stands beside this file; the environment's TOOL_LOG_LIBRARY names another.
 """
@@ -10,11 +10,13 @@ import ctypes
 import os
 import pathlib
 from dataclasses import dataclass
-from typing import Optional
+from typing import NamedTuple, Optional
 
 LONGEST_REPORT = 2494
 LONGEST_LOG = 63130
 LONGEST_BENCHMARKS = 7168
+CREDITED_LISTING_ROOM = 7168
+MOST_STANDARDS = 512
 
 # Which list a refusal's record or benchmark stands in.
 LISTS = ("none", "states", "standards", "units", "benchmarks")
@@ -116,6 +118,13 @@ class Losses:
     oee: int
 
 
+class InForce(NamedTuple):
+    """A standard: its index in the log's list, and its theoretical time in ms."""
+
+    index: int
+    time: int
+
+
 @dataclass(frozen=True)
 class Supplemental:
     """The supplemental figures of the tool, in ten-thousandths of its total time."""
@@ -131,6 +140,7 @@ class Supplemental:
 _u32, _u64, _size = ctypes.c_uint32, ctypes.c_uint64, ctypes.c_size_t
 _Times, _Quantities, _Losses, _Refusal = ctypes.c_uint64 * 6, ctypes.c_uint64 * 5, ctypes.c_uint64 * 5, ctypes.c_uint64 * 3
 _Figures, _Based, _Supplemental, _Next = ctypes.c_double * 6, ctypes.c_uint8 * 4, ctypes.c_uint64 * 4, ctypes.c_uint64 * 1
+_Units, _Length, _Standard = ctypes.c_uint64 * MOST_STANDARDS, ctypes.c_uint64 * 1, ctypes.c_uint64 * 2
 
 _library = ctypes.CDLL(os.environ.get("TOOL_LOG_LIBRARY") or str(pathlib.Path(__file__).resolve().parent / "libtool_log.so"))
 
@@ -153,6 +163,9 @@ _module_figures = _function("tl_module_figures", _u32, _size, _P(_Figures), _P(_
 _tool_figures = _function("tl_tool_figures", _u32, _P(_Figures), _P(_Based), _P(_Refusal))
 _module_losses = _function("tl_module_losses", _u32, _size, _P(_Losses), _P(_Refusal))
 _tool_losses = _function("tl_tool_losses", _u32, _P(_Losses), _P(_Refusal))
+_credited_units = _function("tl_credited_units", _u32, _P(_Units), _P(_Refusal))
+_credited_listing = _function("tl_credited_listing", _u32, ctypes.c_char_p, _size, _P(_Length), _P(_Refusal))
+_standard_in_force = _function("tl_standard_in_force", _u32, _size, _size, _u64, _P(_Standard), _P(_Refusal))
 _supplemental = _function("tl_supplemental", _u32, ctypes.c_char_p, _size, _P(_Supplemental), _P(_Refusal))
 _put_header = _function("tl_put_header", _u32, _size, _u64, _u64, _u64, _u64, _u64, _P(_Next), _P(_Refusal))
 _put_state = _function("tl_put_state", _u32, _size, _u64, _u64, _u64, _P(_Next), _P(_Refusal))
@@ -166,11 +179,11 @@ def _bytes(log) -> bytes:
     return bytes(memoryview(log))
 
 
-def _module(module: int) -> int:
+def _within(name: str, value: int) -> int:
     # ctypes would cut a number that does not fit.
-    if not 0 <= module < 1 << 64:
-        raise ValueError(f"a module is from 0 to 2**64 - 1, not {module}")
-    return module
+    if not 0 <= value < 1 << 64:
+        raise ValueError(f"a {name} is from 0 to 2**64 - 1, not {value}")
+    return value
 
 
 def _int(name: str, value) -> int:
@@ -180,11 +193,13 @@ def _int(name: str, value) -> int:
     return value
 
 
-def _ask(function, log, *arguments) -> None:
+def _ask(function, log, *arguments) -> int:
     log = _bytes(log)
     refusal = _Refusal()
-    if not function(log, len(log), *arguments, ctypes.byref(refusal)):
+    flag = function(log, len(log), *arguments, ctypes.byref(refusal))
+    if not flag:
         raise Refused(*refusal)
+    return flag
 
 
 def _numbers(answer, array, function, log, *arguments):
@@ -199,9 +214,7 @@ def _numbers(answer, array, function, log, *arguments):
 
 def examine(log, room: int = LONGEST_REPORT) -> None:
     """Returns where the log is accepted and its report fits `room` bytes, and raises Refused elsewhere."""
-    if not 0 <= room < 1 << 64:
-        raise ValueError(f"a room is from 0 to 2**64 - 1 bytes, not {room}")
-    _ask(_examine, log, room)
+    _ask(_examine, log, _within("room", room))
 
 
 def report_into(log, buffer: bytearray) -> int:
@@ -233,7 +246,7 @@ def module_count(log) -> int:
 
 
 def module_state_times(log, module: int) -> StateTimes:
-    return _numbers(StateTimes, _Times, _module_state_times, log, _module(module))
+    return _numbers(StateTimes, _Times, _module_state_times, log, _within("module", module))
 
 
 def tool_state_times(log) -> StateTimes:
@@ -241,7 +254,7 @@ def tool_state_times(log) -> StateTimes:
 
 
 def module_quantities(log, module: int) -> Quantities:
-    return _numbers(Quantities, _Quantities, _module_quantities, log, _module(module))
+    return _numbers(Quantities, _Quantities, _module_quantities, log, _within("module", module))
 
 
 def tool_quantities(log) -> Quantities:
@@ -254,7 +267,7 @@ def _as_figures(figures, based) -> Figures:
 
 def module_figures(log, module: int) -> Figures:
     figures, based = _Figures(), _Based()
-    _ask(_module_figures, log, _module(module), ctypes.byref(figures), ctypes.byref(based))
+    _ask(_module_figures, log, _within("module", module), ctypes.byref(figures), ctypes.byref(based))
     return _as_figures(figures, based)
 
 
@@ -265,11 +278,31 @@ def tool_figures(log) -> Figures:
 
 
 def module_losses(log, module: int) -> Losses:
-    return _numbers(Losses, _Losses, _module_losses, log, _module(module))
+    return _numbers(Losses, _Losses, _module_losses, log, _within("module", module))
 
 
 def tool_losses(log) -> Losses:
     return _numbers(Losses, _Losses, _tool_losses, log)
+
+
+def credited_units(log) -> tuple[int, ...]:
+    """The actual units credited to each standard, by its index: to the one in force at a unit record's time. There are 512, with 0 for standards that
+    the log does not have, and they add up to the actual units of the log."""
+    return _numbers(lambda *units: units, _Units, _credited_units, log)
+
+
+def credited_listing(log) -> bytes:
+    """A line of each standard's index and credited units. That of a log without standards is empty."""
+    listing, length = ctypes.create_string_buffer(CREDITED_LISTING_ROOM), _Length()
+    _ask(_credited_listing, log, listing, len(listing), ctypes.byref(length))
+    return listing[: length[0]]
+
+
+def standard_in_force(log, module: int, recipe: int, time: int) -> Optional[InForce]:
+    """The module's standard for the recipe with the latest start at or before the time, which may be past the period, or None."""
+    standard = _Standard()
+    flag = _ask(_standard_in_force, log, _within("module", module), _within("recipe", recipe), _within("time", time), ctypes.byref(standard))
+    return InForce(*standard) if flag == 1 else None
 
 
 def supplemental(log, benchmarks) -> Supplemental:
