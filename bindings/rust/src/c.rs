@@ -19,6 +19,17 @@ extern "C" {
     pub fn tl_tool_figures(log: *const u8, log_len: usize, figures: *mut [f64; 6], based: *mut [u8; 4], refusal: *mut [u64; 3]) -> u32;
     pub fn tl_module_losses(log: *const u8, log_len: usize, module: usize, losses: *mut [u64; 5], refusal: *mut [u64; 3]) -> u32;
     pub fn tl_tool_losses(log: *const u8, log_len: usize, losses: *mut [u64; 5], refusal: *mut [u64; 3]) -> u32;
+    pub fn tl_credited_units(log: *const u8, log_len: usize, units: *mut [u64; 512], refusal: *mut [u64; 3]) -> u32;
+    pub fn tl_credited_listing(log: *const u8, log_len: usize, buf: *mut u8, buf_len: usize, length: *mut [u64; 1], refusal: *mut [u64; 3]) -> u32;
+    pub fn tl_standard_in_force(
+        log: *const u8,
+        log_len: usize,
+        module: usize,
+        recipe: usize,
+        time: u64,
+        standard: *mut [u64; 2],
+        refusal: *mut [u64; 3],
+    ) -> u32;
     pub fn tl_supplemental(
         log: *const u8,
         log_len: usize,

@@ -1,5 +1,5 @@
-//! The packed log of a semiconductor tool, answered: state times, the quantities, efficiencies, losses and supplemental figures of SEMI E79, and the
-//! shift report; and written.
+//! The packed log of a semiconductor tool, answered: state times, the quantities, efficiencies, losses and supplemental figures of SEMI E79, which
+//! standards its units were judged by, and the shift report; and written.
 //!
 //! Every function takes any bytes as a log, or as benchmarks, and answers or refuses. Times are whole milliseconds. A module is counted from 0. A [`Writer`] makes a
 //! log record by record.
@@ -14,6 +14,9 @@ pub const LONGEST_REPORT: usize = 2494;
 pub const LONGEST_LOG: usize = 63130;
 /// The benchmarks of 512 standards, the most that a log has. Of longer ones a byte more is enough too.
 pub const LONGEST_BENCHMARKS: usize = 7168;
+/// A buffer of this size suffices for the listing of credited units of every log.
+pub const CREDITED_LISTING_ROOM: usize = 7168;
+pub const MOST_STANDARDS: usize = 512;
 
 /// Why a log, a benchmark or a record is turned back. The numbers are those of the refused line.
 #[derive(Clone, Copy, Debug, PartialEq, Eq, Hash)]
@@ -168,6 +171,13 @@ pub struct Losses {
     pub oee: u64,
 }
 
+/// A standard: its index in the log's list, and its theoretical time in ms.
+#[derive(Clone, Copy, Debug, PartialEq, Eq)]
+pub struct InForce {
+    pub index: usize,
+    pub time: u64,
+}
+
 /// The supplemental figures of the tool, in ten-thousandths of its total time.
 #[derive(Clone, Copy, Debug, PartialEq, Eq)]
 pub struct Supplemental {
@@ -181,10 +191,10 @@ pub struct Supplemental {
 // functions keep none of them.
 
 fn answered<T>(flag: u32, refusal: [u64; 3], answer: T) -> Result<T, Refusal> {
-    if flag == 1 {
-        Ok(answer)
-    } else {
+    if flag == 0 {
         Err(Refusal::new(refusal))
+    } else {
+        Ok(answer)
     }
 }
 
@@ -277,6 +287,35 @@ pub fn module_losses(log: &[u8], module: usize) -> Result<Losses, Refusal> {
 
 pub fn tool_losses(log: &[u8]) -> Result<Losses, Refusal> {
     numbers(|losses, refusal| unsafe { c::tl_tool_losses(log.as_ptr(), log.len(), losses, refusal) }).map(losses)
+}
+
+/// The actual units credited to each standard, by its index: to the one in force at a unit record's time. Those of standards that the log does not
+/// have are 0, and all add up to the actual units of the log.
+pub fn credited_units(log: &[u8]) -> Result<[u64; MOST_STANDARDS], Refusal> {
+    numbers(|units, refusal| unsafe { c::tl_credited_units(log.as_ptr(), log.len(), units, refusal) })
+}
+
+/// Writes the listing of credited units to the front of the buffer and hands that part back. Where the log is refused, or the buffer is shorter, no
+/// byte changes.
+pub fn credited_listing_into<'a>(log: &[u8], buf: &'a mut [u8]) -> Result<&'a mut [u8], Refusal> {
+    let [length] =
+        numbers(|length, refusal| unsafe { c::tl_credited_listing(log.as_ptr(), log.len(), buf.as_mut_ptr(), buf.len(), length, refusal) })?;
+    Ok(&mut buf[..length as usize])
+}
+
+/// A line of each standard's index and credited units. That of a log without standards is empty.
+pub fn credited_listing(log: &[u8]) -> Result<String, Refusal> {
+    let mut buf = [0; CREDITED_LISTING_ROOM];
+    let text = credited_listing_into(log, &mut buf)?;
+    Ok(String::from_utf8_lossy(text).into_owned())
+}
+
+/// The module's standard for the recipe with the latest start at or before the time, which may be past the period.
+pub fn standard_in_force(log: &[u8], module: usize, recipe: usize, time: u64) -> Result<Option<InForce>, Refusal> {
+    let (mut standard, mut refusal) = ([0; 2], [0; 3]);
+    let flag = unsafe { c::tl_standard_in_force(log.as_ptr(), log.len(), module, recipe, time, &mut standard, &mut refusal) };
+    let [index, time] = standard;
+    answered(flag, refusal, (flag == 1).then_some(InForce { index: index as usize, time }))
 }
 
 /// The supplemental figures of the tool. Benchmarks are 14 bytes for each standard of the log, in the standards' sequence: reference, optimized and

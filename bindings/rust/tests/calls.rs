@@ -1,5 +1,6 @@
 //! Every call on logs packed here: case W, a log with no uptime, standards of two modules, and bytes that are refused; the losses on shares with
-//! equal remainders too; the supplemental figures on R1-3 and on benchmarks with every fault; and the writing ones on records packed here too.
+//! equal remainders too; credited units and the standard in force on revisions; the supplemental figures on R1-3 and on benchmarks with every fault;
+//! and the writing ones on records packed here too.
 
 use tool_log::*;
 
@@ -84,6 +85,42 @@ fn two_modules(standards: &[([u64; 4], u64)]) -> Vec<u8> {
     log
 }
 
+// A hundred seconds of two modules: two standards judge no unit, one of them from the last ms on, a unit is 1 ms ahead of a start and one at it, and
+// both modules have recipe 3.
+fn revisions() -> Vec<u8> {
+    let mut log = header(100000, 2, 2, 8, 10);
+    for module in 0..2 {
+        log.extend(packed(&[(module, 6), (0, 5), (0, 35), (0, 2)]));
+    }
+    for values in [
+        [0, 3, 0, 5],
+        [0, 3, 4000, 4],
+        [0, 3, 6000, greatest(27)],
+        [0, 3, 8000, 2],
+        [0, 7, 2000, 2],
+        [1, 3, 4000, 6],
+        [1, 1023, 9999, 1],
+        [1, 1023, 99999, 3],
+    ] {
+        log.extend(standard(values, 0));
+    }
+    for (module, recipe, time, actual, effective) in [
+        (0, 3, 0, 10, 9),
+        (0, 3, 3999, 20, 15),
+        (0, 3, 4000, 30, 1),
+        (1, 3, 4000, 5, 5),
+        (0, 3, 5999, 40, 0),
+        (0, 3, 8000, 100, 99),
+        (0, 7, 9998, 7, 0),
+        (0, 3, 9999, 1, 1),
+        (1, 1023, 9999, 65535, 0),
+        (1, 1023, 49999, 34435, 34435),
+    ] {
+        log.extend(packed(&[(module, 6), (recipe, 10), (time, 35), (actual, 16), (effective, 16), (0, 5)]));
+    }
+    log
+}
+
 // A log whose modules split the period, in ms, into the numerators of their losses and OEE: availability, operational, rate, quality, OEE. Units take
 // 1 ms.
 fn parted(modules: &[[u64; 5]]) -> Vec<u8> {
@@ -132,11 +169,18 @@ fn turned_back(log: &[u8], ground: Ground, list: List, place: u64) {
     assert_eq!(report_into(log, &mut buf[..0]), Err(why));
     assert_eq!(buf, [0xa5; LONGEST_REPORT]);
     assert_eq!(report(log), Err(why));
+    assert_eq!(credited_listing_into(log, &mut buf), Err(why));
+    assert_eq!(credited_listing_into(log, &mut buf[..0]), Err(why));
+    assert_eq!(buf, [0xa5; LONGEST_REPORT]);
+    assert_eq!(credited_listing(log), Err(why));
+    assert_eq!(credited_units(log), Err(why));
     assert_eq!(module_count(log), Err(why));
     assert_eq!(module_state_times(log, 1), Err(why));
     assert_eq!(module_quantities(log, 1), Err(why));
     assert_eq!(module_figures(log, 1), Err(why));
     assert_eq!(module_losses(log, 1), Err(why));
+    assert_eq!(standard_in_force(log, 1, 0, 0), Err(why));
+    assert_eq!(standard_in_force(log, usize::MAX, usize::MAX, u64::MAX), Err(why));
     assert_eq!(tool_state_times(log), Err(why));
     assert_eq!(tool_quantities(log), Err(why));
     assert_eq!(tool_figures(log), Err(why));
@@ -223,6 +267,7 @@ fn a_module_that_is_not_there() {
         assert_eq!(module_quantities(&week(), m), Err(why));
         assert_eq!(module_figures(&week(), m), Err(why));
         assert_eq!(module_losses(&week(), m), Err(why));
+        assert_eq!(standard_in_force(&week(), m, 0, 0), Err(why));
     }
 }
 
@@ -269,6 +314,84 @@ fn losses_of_fractions() {
     assert_eq!(module_losses(&log, 0), bar([1429, 1429, 1428, 1428, 4286]));
     assert_eq!(module_losses(&log, 1), bar([0, 1429, 2857, 0, 5714]));
     assert_eq!(tool_losses(&log), bar([714, 1429, 2143, 714, 5000]));
+}
+
+// The credited units of the log's standards, and 0 for those that it does not have; and their listing, written or refused by the buffer's length.
+fn credited_are(log: &[u8], due: &[u64], listing: &str) {
+    let mut units = [0; MOST_STANDARDS];
+    units[..due.len()].copy_from_slice(due);
+    assert_eq!(credited_units(log), Ok(units));
+    assert_eq!(credited_listing(log).as_deref(), Ok(listing));
+    let length = listing.len();
+    for room in [0, 1, length.saturating_sub(1), length, length + 1, CREDITED_LISTING_ROOM] {
+        let (mut buf, mut left) = (vec![0xa5; room], vec![0xa5; room]);
+        let written = credited_listing_into(log, &mut buf).map(|part| part.len());
+        if room < length {
+            assert_eq!(written, Err(SHORT));
+        } else {
+            assert_eq!(written, Ok(length));
+            left[..length].copy_from_slice(listing.as_bytes());
+        }
+        assert_eq!(buf, left);
+    }
+}
+
+#[test]
+fn credited() {
+    credited_are(&revisions(), &[30, 70, 0, 101, 7, 5, 99970, 0], "0 30\n1 70\n2 0\n3 101\n4 7\n5 5\n6 99970\n7 0\n");
+    credited_are(&r1_3(), &UNITS.map(|unit| unit.1), "0 1500\n1 600\n2 800\n3 500\n");
+    credited_are(&week(), &[280, 290, 150], "0 280\n1 290\n2 150\n");
+    credited_are(&idle(), &[], "");
+}
+
+// 512 revisions of one recipe, each credited with as many units as its index.
+#[test]
+fn credited_to_the_most_standards() {
+    let mut log = header(200000, 1, 1, 512, 512);
+    log.extend(packed(&[(0, 6), (0, 5), (0, 35), (0, 2)]));
+    for start in 0..512 {
+        log.extend(standard([0, 3, start, 1], 0));
+    }
+    for time in 0..512 {
+        log.extend(packed(&[(0, 6), (3, 10), (time, 35), (time, 16), (0, 16), (0, 5)]));
+    }
+    let due: Vec<u64> = (0..512).collect();
+    credited_are(&log, &due, &due.iter().map(|n| format!("{n} {n}\n")).collect::<String>());
+}
+
+// At each start, 1 ms ahead of it and past the period. Cut to fewer bits, the last time past it would be 0, and some recipes 3.
+#[test]
+fn in_force() {
+    let in_force = |module, recipe, time| standard_in_force(&revisions(), module, recipe, time);
+    let found = |index, time| Ok(Some(InForce { index, time }));
+    for (module, recipe, start, ahead, at) in [
+        (0, 3, 4000, found(0, 5), found(1, 4)),
+        (0, 3, 6000, found(1, 4), found(2, greatest(27))),
+        (0, 3, 8000, found(2, greatest(27)), found(3, 2)),
+        (0, 7, 2000, Ok(None), found(4, 2)),
+        (1, 3, 4000, Ok(None), found(5, 6)),
+        (1, 1023, 9999, Ok(None), found(6, 1)),
+        (1, 1023, 99999, found(6, 1), found(7, 3)),
+    ] {
+        assert_eq!(in_force(module, recipe, start - 1), ahead);
+        assert_eq!(in_force(module, recipe, start), at);
+        assert_eq!(in_force(module, recipe, start + 1), at);
+    }
+    assert_eq!(in_force(0, 3, 0), found(0, 5));
+    assert_eq!(in_force(0, 7, 0), Ok(None));
+    for time in [99999, 100000, greatest(35), u64::MAX, 1 << 63] {
+        assert_eq!(in_force(0, 3, time), found(3, 2));
+        assert_eq!(in_force(0, 7, time), found(4, 2));
+        assert_eq!(in_force(1, 3, time), found(5, 6));
+        assert_eq!(in_force(1, 1023, time), found(7, 3));
+        assert_eq!(in_force(0, 1023, time), Ok(None));
+        assert_eq!(in_force(1, 7, time), Ok(None));
+        for recipe in [0, 2, 4, 1022, 1024 + 3, 65536 + 3, (1 << 32) + 3, usize::MAX] {
+            assert_eq!(in_force(0, recipe, time), Ok(None));
+            assert_eq!(in_force(1, recipe, time), Ok(None));
+        }
+        assert_eq!(standard_in_force(&idle(), 0, 0, time), Ok(None));
+    }
 }
 
 fn four(reference: u64, optimized: u64, value_added: u64, total_effective_units: u64) -> Result<Supplemental, Refusal> {
@@ -415,8 +538,14 @@ fn the_header_says_the_same() {
     }
     let rows = header.lines().filter(|line| line.starts_with("    X(") && line.matches('"').count() == 4);
     assert_eq!(rows.count(), GROUNDS.len());
-    for longest in [format!("REPORT {LONGEST_REPORT}"), format!("LOG {LONGEST_LOG}"), format!("BENCHMARKS {LONGEST_BENCHMARKS}")] {
-        assert!(header.contains(&format!("TL_LONGEST_{longest}\n")));
+    for bound in [
+        format!("LONGEST_REPORT {LONGEST_REPORT}"),
+        format!("LONGEST_LOG {LONGEST_LOG}"),
+        format!("LONGEST_BENCHMARKS {LONGEST_BENCHMARKS}"),
+        format!("CREDITED_LISTING_ROOM {CREDITED_LISTING_ROOM}"),
+        format!("MOST_STANDARDS {MOST_STANDARDS}"),
+    ] {
+        assert!(header.contains(&format!("TL_{bound}\n")));
     }
 }
 
