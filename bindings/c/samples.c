@@ -20,11 +20,12 @@ static int save(const char *folder, const char *name, const struct written *log,
 
 int main(int argc, char **argv)
 {
-    struct written week = write_case_w(3600000), late = write_case_w(604800000), idle = write_idle();
+    struct written week = write_case_w(3600000), late = write_case_w(604800000), idle = write_idle(), revised = write_revisions();
     if (argc != 2) {
         fprintf(stderr, "usage: samples FOLDER\n");
         return 2;
     }
     return save(argv[1], "week.log", &week, week.length) || save(argv[1], "idle.log", &idle, idle.length)
-        || save(argv[1], "late.log", &late, late.length) || save(argv[1], "cut.log", &week, week.length - 1);
+        || save(argv[1], "late.log", &late, late.length) || save(argv[1], "cut.log", &week, week.length - 1)
+        || save(argv[1], "revised.log", &revised, revised.length);
 }
