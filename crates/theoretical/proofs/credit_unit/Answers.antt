@@ -72,7 +72,7 @@ count-requires c =
     let one = one_in_force c.args.standards.now c.requires.rising c.record_from-u.result.«module» c.record_from-u.result.recipe c.record_from-u.result.time c.in-Some.p c.in-Some.ensures in
     let listed = index-low c.args.log.bytes.now c.args.log.header c.args.log.header.standards c.args.standards.now c.requires.listed.0 _ _ _ c.in-Some.p one in
     let low : c.in-Some.p.index < 512 = omega (arith, listed, c.requires.listed.1) in
-    (low, w.1, omega (arith, c.requires.judged.low c.in-Some.p.index low, c.requires.i_bound.0))
+    (low, omega (arith, w.1, w.2), omega (arith, c.requires.judged.low c.in-Some.p.index low, c.requires.i_bound.0))
 
 pub returns-clause-answer : goal.returns-clause-answer
 returns-clause-answer c =
