@@ -5,3 +5,4 @@ pub mod SequenceCases
 pub mod AppendixExample
 pub mod ModuleCases
 pub mod BarsByHand
+pub mod RevisionsByHand

@@ -4,3 +4,4 @@ pub mod Sequences
 pub mod Appendix
 pub mod Modules
 pub mod Bars
+pub mod Revisions
