@@ -1,8 +1,9 @@
-//! Tests the tool-log library from outside: documents 01 and 02, as far as R-6, in plain Rust,
-//! apart from the library (`oracle`, `writing`, `supplemental`, `losses`), a seeded generator of logs, of
-//! runs of calls that write them and of benchmarks, and the comparison with the linked library.
+//! Tests the tool-log library from outside: documents 01 and 02, as far as R-7, in plain Rust,
+//! apart from the library (`oracle`, `writing`, `supplemental`, `losses`, `credited`), a seeded generator of logs, of
+//! runs of calls that write them, of lookups in them and of benchmarks, and the comparison with the linked library.
 
 pub mod arguments;
+pub mod credited;
 pub mod draft;
 pub mod generator;
 pub mod losses;

@@ -1,5 +1,6 @@
 //! Counts what a run met, so that a refusal or a tie that a generator misses shows.
 
+use crate::credited::{Credited, InForce, Lookup, LOOKUPS, SHAPES};
 use crate::oracle::Account;
 use crate::records::*;
 use crate::supplemental::Supplemental;
@@ -35,12 +36,22 @@ const OF_LOGS: [(u64, u64); 24] = [
     (19, UNITS),
 ];
 
+/// Refused to a module that the tool does not have.
+const STRAY: (u64, u64) = (7, NO_LIST);
+
 /// How many remainders may be equal.
 const TIED: [usize; 4] = [2, 3, 4, 5];
 
 /// So many equal remainders, and how many of them may get one where the others get none.
 fn ties(tied: usize) -> impl Iterator<Item = (usize, usize)> {
     (1..tied).map(move |getting| (tied, getting))
+}
+
+/// The names of what was counted never.
+fn missed(names: &[&str], counts: &[u64]) -> Vec<String> {
+    let counted = names.iter().zip(counts);
+    let never = counted.filter(|(_, count)| **count == 0);
+    never.map(|(name, _)| name.to_string()).collect()
 }
 
 /// How many were accepted, and how many refused by number and list.
@@ -95,6 +106,12 @@ pub struct Tally {
     ties: BTreeMap<(usize, usize), u64>,
     /// Those with an OEE below, at or above the report's in a bar.
     oee: BTreeMap<Ordering, u64>,
+    /// The accepted logs by what they have of the `SHAPES`.
+    credited: [u64; SHAPES.len()],
+    pub short_listings: u64,
+    /// Of the lookups, and those not refused by what they are of the `LOOKUPS`.
+    lookups: Verdicts,
+    kinds: [u64; LOOKUPS.len()],
     /// Of the calls for supplemental figures.
     pub supplemental: Verdicts,
     above_zero: u64,
@@ -127,6 +144,31 @@ impl Tally {
         }
         for oee in BTreeSet::from_iter(account.oee_beside_report()) {
             *self.oee.entry(oee).or_default() += 1;
+        }
+    }
+
+    pub fn count_credited(&mut self, credited: &Result<Credited, Refusal>) {
+        let Ok(credited) = credited else {
+            return;
+        };
+        for (count, has) in self.credited.iter_mut().zip(credited.shapes()) {
+            *count += u64::from(has);
+        }
+    }
+
+    /// A lookup in a log, and what it answers.
+    pub fn count_lookup(
+        &mut self,
+        credited: &Result<Credited, Refusal>,
+        lookup: &Lookup,
+        answer: &Result<InForce, Refusal>,
+    ) {
+        self.lookups.count(answer);
+        let (Ok(credited), Ok(answer)) = (credited, answer) else {
+            return;
+        };
+        for (count, is) in self.kinds.iter_mut().zip(credited.kinds(lookup, answer)) {
+            *count += u64::from(is);
         }
     }
 
@@ -176,6 +218,29 @@ impl Tally {
         missing.chain(ties).chain(oee).collect()
     }
 
+    /// What no log has that shows by which revision a unit was judged.
+    pub fn never_met_in_credited(&self) -> Vec<String> {
+        missed(&SHAPES, &self.credited)
+    }
+
+    /// The same, and 18 where no buffer was too short for a listing.
+    pub fn never_met_in_credited_with_buffers(&self) -> Vec<String> {
+        let short = (self.short_listings == 0).then(|| String::from("18 list 0"));
+        self.never_met_in_credited()
+            .into_iter()
+            .chain(short)
+            .collect()
+    }
+
+    /// What no lookup met: each kind of them, a module that the tool does not have, and a refusal of the log.
+    pub fn never_met_in_lookups(&self) -> Vec<String> {
+        let stray = self.lookups.never_met(&[STRAY]);
+        let of_log = self.lookups.refused.keys().all(|ground| *ground == STRAY);
+        let of_log = of_log.then(|| String::from("a refusal of the log"));
+        let kinds = missed(&LOOKUPS, &self.kinds);
+        kinds.into_iter().chain(stray).chain(of_log).collect()
+    }
+
     /// What no benchmarks met: the numbers of list 4, a refusal of the log, and four figures above 0.
     pub fn never_met_in_supplemental(&self) -> Vec<String> {
         let numbers = [5, 6, 12, 20, 21].map(|number| (number, BENCHMARKS));
@@ -190,6 +255,7 @@ impl Tally {
         let all = [
             self.never_met(),
             self.never_met_in_losses(),
+            self.never_met_in_credited(),
             self.never_met_in_supplemental(),
         ];
         all.concat()
@@ -241,6 +307,23 @@ impl Tally {
         let (below, above) = (Ordering::Less, Ordering::Greater);
         let counts = [below, above].map(|ordering| self.oee_that_is(ordering));
         text + &format!("OEE in a bar below and above the report's: {counts:?} logs\n")
+    }
+
+    /// The credited units of accepted logs.
+    pub fn credited(&self) -> String {
+        let counted = SHAPES.iter().zip(self.credited);
+        let lines = counted.map(|(name, count)| format!("{name}: {count} logs\n"));
+        lines.collect()
+    }
+
+    /// The lookups of the standard in force.
+    pub fn lookups(&self) -> String {
+        let mut text = self.lookups.summary("lookups") + "\n";
+        for (name, count) in LOOKUPS.iter().zip(self.kinds) {
+            text += &format!("{name}: {count} lookups\n");
+        }
+        let stray = self.lookups.refused.get(&STRAY).unwrap_or(&0);
+        text + &format!("refused 7 list 0: {stray} lookups\n")
     }
 
     /// The calls for supplemental figures.

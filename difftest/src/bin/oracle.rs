@@ -1,8 +1,9 @@
-//! Reads one log from standard input and prints its report, its state times, its quantities, its losses or, with the benchmarks
-//! of a file, its supplemental figures; or the refused line.
+//! Reads one log from standard input and prints its report, its state times, its quantities, its losses, its credited units or, with
+//! the benchmarks of a file, its supplemental figures; or the refused line.
 //!
-//! oracle [times|quantities|losses|supplemental BENCHMARKS]
+//! oracle [times|quantities|losses|credited|supplemental BENCHMARKS]
 
+use difftest::credited::Credited;
 use difftest::oracle::account;
 use difftest::supplemental::{supplemental, text};
 use std::io::{Read, Write};
@@ -16,6 +17,7 @@ fn main() -> std::io::Result<()> {
         ["times"] => account(&log).map(|account| account.times()),
         ["quantities"] => account(&log).map(|account| account.quantities()),
         ["losses"] => account(&log).map(|account| account.losses()),
+        ["credited"] => Credited::of(&log, &account(&log)).map(|credited| credited.listing()),
         ["supplemental", benchmarks] => {
             supplemental(&log, &std::fs::read(benchmarks)?).map(|figures| text(&figures))
         }

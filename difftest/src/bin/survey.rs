@@ -4,7 +4,8 @@
 //! survey SEED COUNT
 
 use difftest::arguments::two_numbers;
-use difftest::generator::{benchmarks, make};
+use difftest::credited::{look_up, Credited};
+use difftest::generator::{benchmarks, lookups, make};
 use difftest::oracle::account;
 use difftest::supplemental::{answer, Judged};
 use difftest::tally::Tally;
@@ -34,6 +35,12 @@ fn main() -> ExitCode {
                 verdict.as_ref().err()
             );
         }
+        let credited = Credited::of(&made.bytes, &verdict);
+        tally.count_credited(&credited);
+        for lookup in lookups::make(seed, index, &made.bytes, verdict.is_ok()) {
+            let answer = look_up(&credited, &lookup);
+            tally.count_lookup(&credited, &lookup, &answer);
+        }
         let judged = Judged::of(&made.bytes, &verdict);
         for slice in benchmarks::make(seed, index, &made.bytes, verdict.err()) {
             let figures = answer(&judged, &slice.bytes);
@@ -50,8 +57,10 @@ fn main() -> ExitCode {
     print!("{tally}");
     println!("longest accepted log: {accepted_bytes} bytes");
     print!("{}", tally.losses());
+    print!("{}", tally.credited());
+    print!("{}", tally.lookups());
     print!("{}", tally.supplemental());
-    let never_met = tally.never_met_in_reading();
+    let never_met = [tally.never_met_in_reading(), tally.never_met_in_lookups()].concat();
     println!("never met: {never_met:?}; unexpected: {unexpected}");
     let all_met = never_met.is_empty();
     ExitCode::from(u8::from(unexpected > 0 || !all_met))

@@ -1,9 +1,10 @@
-//! Makes logs from a seed: valid ones of every shape and damaged ones of every kind; runs of calls that write them, and
-//! benchmarks for them.
+//! Makes logs from a seed: valid ones of every shape and damaged ones of every kind; runs of calls that write them, lookups in
+//! them, and benchmarks for them.
 
 mod bars;
 pub mod benchmarks;
 mod faults;
+pub mod lookups;
 mod raw;
 pub mod runs;
 mod sequences;
