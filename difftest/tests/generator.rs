@@ -1,5 +1,6 @@
 //! The generator makes what it says, and every shape of log that document 01 names.
 
+use difftest::credited::Credited;
 use difftest::draft::Draft;
 use difftest::generator::runs::records;
 use difftest::generator::{make, Expected};
@@ -20,6 +21,7 @@ fn the_oracle_answers_what_the_generator_expects() {
         let verdict = account(&made.bytes);
         tally.count(&verdict);
         tally.count_losses(&verdict);
+        tally.count_credited(&Credited::of(&made.bytes, &verdict));
         let expected = made.expected;
         assert!(
             expected.agrees(&verdict),
@@ -30,6 +32,8 @@ fn the_oracle_answers_what_the_generator_expects() {
     assert!(tally.never_met().is_empty(), "{:?}", tally.never_met());
     let of_bars = tally.never_met_in_losses();
     assert!(of_bars.is_empty(), "{of_bars:?}");
+    let of_credited = tally.never_met_in_credited();
+    assert!(of_credited.is_empty(), "{of_credited:?}");
 }
 
 #[test]
@@ -552,8 +556,47 @@ fn shapes_of_bars(account: &Account, note: &mut impl FnMut(&str, bool)) {
     );
 }
 
+/// How many units standards are credited with, and revisions that are told apart by little.
+fn shapes_of_revisions(log: &Log, units: &[u64], note: &mut impl FnMut(&str, bool)) {
+    for digits in 1..=9 {
+        let name = format!("credited units of {digits} digits");
+        let of_digits = |units: &u64| units.to_string().len() == digits;
+        note(&name, units.iter().any(of_digits));
+    }
+    let all: u64 = units.iter().sum();
+    note(
+        "all of the most units at one of two standards",
+        all == MOST_UNITS * 65_535 && units.len() == 2 && units.contains(&all),
+    );
+    note(
+        "512 standards, all with units",
+        units.len() == 512 && !units.contains(&0),
+    );
+    note(
+        "standards without units, several",
+        units.len() > 1 && all == 0,
+    );
+    let credited: Vec<(&Standard, &u64)> = log.standards.iter().zip(units).collect();
+    let mut next = |name: &str, has: &dyn Fn(&Standard, &Standard) -> bool| {
+        let has = credited.windows(2).any(|pair| {
+            let [(one, units), (other, more)] = [pair[0], pair[1]];
+            let of_both = (one.module, one.recipe) == (other.module, other.recipe);
+            of_both && *units > 0 && *more > 0 && has(one, other)
+        });
+        note(name, has);
+    };
+    next(
+        "units on both of two revisions of one time",
+        &|one, other| one.theoretical == other.theoretical,
+    );
+    next(
+        "units on a revision of 1 ms and on the next",
+        &|one, other| one.start + 1 == other.start,
+    );
+}
+
 /// Names of the shapes that an accepted log has.
-fn shapes(log: &Log, account: &Account) -> Vec<String> {
+fn shapes(log: &Log, account: &Account, units: &[u64]) -> Vec<String> {
     let mut shapes = vec![format!("{} modules", log.header.modules)];
     let mut note = |name: &str, has: bool| {
         if has {
@@ -603,6 +646,7 @@ fn shapes(log: &Log, account: &Account) -> Vec<String> {
     });
 
     shapes_of_bars(account, &mut note);
+    shapes_of_revisions(log, units, &mut note);
 
     // Neighbours in sequence that a field behind the first parts, or would part the other way.
     note("states of one time", {
@@ -719,13 +763,18 @@ fn every_shape_is_met() {
     let mut met = BTreeSet::new();
     for index in 0..LOGS {
         let bytes = make(4, index).bytes;
-        if let Ok(account) = account(&bytes) {
+        let verdict = account(&bytes);
+        if let Ok(account) = &verdict {
             let log = read(&bytes).expect("an accepted log");
-            met.extend(shapes(&log, &account));
+            let entries = Credited::of(&bytes, &verdict)
+                .expect("an accepted log")
+                .entries();
+            met.extend(shapes(&log, account, &entries[..log.standards.len()]));
         }
     }
     let mut due: Vec<String> = (1..=64).map(|count| format!("{count} modules")).collect();
     due.extend((0..24).map(|code| format!("code {code}")));
+    due.extend((1..=9).map(|digits| format!("credited units of {digits} digits")));
     due.extend(tables().iter().map(Table::name));
     for (one, other) in (0..25).map(|pair| (pair / 5, pair % 5)) {
         if one < other {
@@ -754,6 +803,11 @@ fn every_shape_is_met() {
             "an exact half in the fifth place",
             "tie of the tool alone",
             "tie of some modules",
+            "all of the most units at one of two standards",
+            "512 standards, all with units",
+            "standards without units, several",
+            "units on both of two revisions of one time",
+            "units on a revision of 1 ms and on the next",
             "states of one time",
             "states, a later time and a lower module",
             "standards of one module and recipe",

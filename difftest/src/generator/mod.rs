@@ -6,6 +6,7 @@ pub mod benchmarks;
 mod faults;
 pub mod lookups;
 mod raw;
+mod revisions;
 pub mod runs;
 mod sequences;
 mod valid;
@@ -37,14 +38,17 @@ pub struct Made {
     pub expected: Expected,
 }
 
-/// Once in so many logs the remainders of the losses are chosen.
+/// Once in so many logs the remainders of the losses are chosen; once in so many others standards have revisions, with units for each.
 const BARS_ONCE_IN: u64 = 6;
+const REVISIONS_ONCE_IN: u64 = 6;
 
 /// The log of a seed and an index.
 pub fn make(seed: u64, index: u64) -> Made {
     let mut rng = Prng::new(seed, index);
     let draft = if rng.once_in(BARS_ONCE_IN) {
         bars::draft(&mut rng)
+    } else if rng.once_in(REVISIONS_ONCE_IN) {
+        revisions::draft(&mut rng)
     } else {
         valid::draft(&mut rng)
     };

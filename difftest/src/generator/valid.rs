@@ -172,7 +172,7 @@ fn equipped(rng: &mut Prng, modules: u64) -> u64 {
 /// Periods of which many whole numbers of ms are an exact half in the fifth place.
 const HALVED: [u64; 4] = [32, 800, 4_000, 20_000];
 
-fn period(rng: &mut Prng) -> u64 {
+pub fn period(rng: &mut Prng) -> u64 {
     match rng.below(13) {
         0 => 1,
         1 => rng.between(2, 16),
@@ -504,7 +504,7 @@ fn unit_time(rng: &mut Prng, moments: &[u64], period: u64, start: u64) -> u64 {
     }
 }
 
-fn effective(rng: &mut Prng, actual: u64) -> u64 {
+pub fn effective(rng: &mut Prng, actual: u64) -> u64 {
     match rng.below(4) {
         0 => actual,
         1 => actual.saturating_sub(1),
