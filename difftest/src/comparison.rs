@@ -1,5 +1,6 @@
 //! Compares what the library answers for one log with what the oracle answers.
 
+use crate::credited::{Credited, InForce, Lookup};
 use crate::library::{self, Answer, FiguresAndBases, Whose, UNTOUCHED, UNTOUCHED_FLAG};
 use crate::losses::Bar;
 use crate::oracle::{figures, Account, Figures, Sums};
@@ -10,8 +11,9 @@ use std::fmt::Debug;
 /// Bytes on both sides of the lent buffer that must stay as they are.
 const MARGIN: usize = 64;
 
-/// Room for every report.
+/// Room for every report, and for every listing.
 const LARGE_ROOM: usize = 4_096;
+const LARGE_ROOM_OF_LISTING: usize = 8_192;
 
 /// The longest bytes that a line of differences shows whole.
 const SHOWN_BYTES: usize = 2_000;
@@ -23,13 +25,32 @@ pub fn shown(bytes: &[u8]) -> String {
     bytes.iter().map(|byte| format!("{byte:02x}")).collect()
 }
 
-/// The differences of one log, one line each, and how often 18 was due.
+/// Buffer lengths to try for a text: none, up to 1 beside its own, and a large one.
+fn rooms_about(text: &[u8], large: usize) -> Vec<usize> {
+    let shorter = text.len().checked_sub(1);
+    let others = [text.len(), text.len() + 1, large];
+    let mut rooms: Vec<usize> = [0].into_iter().chain(shorter).chain(others).collect();
+    rooms.dedup();
+    rooms
+}
+
+/// The text that is due in a buffer with room for so many bytes, or the refusal.
+fn with_room(text: &Result<Vec<u8>, Refusal>, room: usize) -> Result<&[u8], Refusal> {
+    match text {
+        Ok(text) if text.len() > room => Err(Refusal::of_log(18)),
+        Ok(text) => Ok(text),
+        Err(refusal) => Err(*refusal),
+    }
+}
+
+/// The differences of one log, one line each, and how often 18 was due, for a report and for a listing.
 pub struct Comparison<'a> {
     log: &'a [u8],
     verdict: &'a Result<Account, Refusal>,
     report: Result<Vec<u8>, Refusal>,
     pub differences: Vec<String>,
     pub short_buffers: u64,
+    pub short_listings: u64,
 }
 
 impl<'a> Comparison<'a> {
@@ -48,6 +69,7 @@ impl<'a> Comparison<'a> {
                 .map_err(|refusal| *refusal),
             differences: Vec::new(),
             short_buffers: 0,
+            short_listings: 0,
         };
         for room in comparison.rooms() {
             comparison.verdict_with_room(room);
@@ -85,16 +107,56 @@ impl<'a> Comparison<'a> {
         }
     }
 
+    /// The credited units of every standard that a log may have, and their listing.
+    pub fn credited(&mut self, credited: &Result<Credited, Refusal>) {
+        let log = self.log;
+        let credited = credited.as_ref().map_err(|refusal| *refusal);
+        let expected = credited.map(Credited::entries);
+        let answer = library::credited_units(log);
+        self.compare_verdict("credited units", &expected, answer.answered, answer.refusal);
+        let due = expected.unwrap_or([UNTOUCHED; 512]);
+        if let Some(at) = (0..due.len()).find(|&at| due[at] != answer.values[at]) {
+            let what = format!("credited units of standard {at}");
+            self.differs(&what, &due[at], &answer.values[at]);
+        }
+
+        let listing = credited.map(Credited::listing);
+        let rooms = match &listing {
+            Ok(listing) => rooms_about(listing, LARGE_ROOM_OF_LISTING),
+            Err(_) => vec![0, 1, 7_168, LARGE_ROOM_OF_LISTING],
+        };
+        for room in rooms {
+            let expected = with_room(&listing, room);
+            if expected == Err(Refusal::of_log(18)) {
+                self.short_listings += 1;
+            }
+            let what = format!("listing with room {room}");
+            let answer = self.writes(&what, expected.unwrap_or_default(), room, |lent| {
+                library::credited_listing(log, lent)
+            });
+            let length = expected.map(|listing| [listing.len() as u64]);
+            self.compare_numbers(&what, length, answer);
+        }
+    }
+
+    /// The standard in force.
+    pub fn lookup(&mut self, lookup: &Lookup, expected: Result<InForce, Refusal>) {
+        let answer = library::standard_in_force(self.log, lookup);
+        let due = match expected {
+            Ok(Some(standard)) => (1, standard, [0; 3]),
+            Ok(None) => (2, [UNTOUCHED; 2], [0; 3]),
+            Err(it) => (0, [UNTOUCHED; 2], [it.number, it.list, it.place]),
+        };
+        let answered = (answer.answered, answer.values, answer.refusal);
+        if answered != due {
+            self.differs(&format!("{lookup:?}"), &due, &answered);
+        }
+    }
+
     /// Buffer lengths to try.
     fn rooms(&self) -> Vec<usize> {
         match &self.report {
-            Ok(report) => vec![
-                0,
-                report.len() - 1,
-                report.len(),
-                report.len() + 1,
-                LARGE_ROOM,
-            ],
+            Ok(report) => rooms_about(report, LARGE_ROOM),
             Err(_) => vec![0, 1, 183, 2_494, LARGE_ROOM],
         }
     }
@@ -149,17 +211,8 @@ impl<'a> Comparison<'a> {
         }
     }
 
-    /// The report that is due in a buffer with room for so many bytes, or the refusal.
-    fn report_with_room(&self, room: usize) -> Result<&[u8], Refusal> {
-        match &self.report {
-            Ok(report) if report.len() > room => Err(Refusal::of_log(18)),
-            Ok(report) => Ok(report),
-            Err(refusal) => Err(*refusal),
-        }
-    }
-
     fn verdict_with_room(&mut self, room: usize) {
-        let expected = self.report_with_room(room).map(<[u8]>::len);
+        let expected = with_room(&self.report, room).map(<[u8]>::len);
         if expected == Err(Refusal::of_log(18)) {
             self.short_buffers += 1;
         }
@@ -169,25 +222,34 @@ impl<'a> Comparison<'a> {
     }
 
     fn report_in(&mut self, room: usize) {
+        let report = with_room(&self.report, room).unwrap_or_default().to_vec();
+        let what = format!("report with room {room}");
+        let log = self.log;
+        let length = self.writes(&what, &report, room, |lent| library::report(log, lent));
+        if length != report.len() {
+            self.differs(&format!("length of the {what}"), &report.len(), &length);
+        }
+    }
+
+    /// What a call answers that has to write this text to the front of a buffer with room for so many bytes, and nothing else there or on its two sides.
+    fn writes<T>(
+        &mut self,
+        what: &str,
+        text: &[u8],
+        room: usize,
+        call: impl FnOnce(&mut [u8]) -> T,
+    ) -> T {
         let mut due: Vec<u8> = (0..room + 2 * MARGIN)
             .map(|at| (at * 31 + room) as u8)
             .collect();
         let mut lent = due.clone();
-        let report = self.report_with_room(room).unwrap_or_default();
-        let due_length = report.len();
-        due[MARGIN..MARGIN + due_length].copy_from_slice(report);
-        let length = library::report(self.log, &mut lent[MARGIN..MARGIN + room]);
-        if length != due_length {
-            self.differs(
-                &format!("report length with room {room}"),
-                &due_length,
-                &length,
-            );
-        }
+        due[MARGIN..MARGIN + text.len()].copy_from_slice(text);
+        let answer = call(&mut lent[MARGIN..MARGIN + room]);
         if let Some(at) = (0..due.len()).find(|&at| due[at] != lent[at]) {
-            let what = format!("buffer of {room}, byte {}", at as isize - MARGIN as isize);
-            self.differs(&what, &due[at], &lent[at]);
+            let byte = at as isize - MARGIN as isize;
+            self.differs(&format!("{what}, byte {byte}"), &due[at], &lent[at]);
         }
+        answer
     }
 
     fn expected_sums(&self, whose: Whose) -> Result<Sums, Refusal> {

@@ -1,5 +1,6 @@
 //! The linked library, called safely. Arrays go in filled, so that what a refusal leaves shows.
 
+use crate::credited::Lookup;
 use crate::records::Record;
 use tool_log::c;
 
@@ -121,6 +122,58 @@ pub fn supplemental(log: &[u8], benchmarks: &[u8]) -> Answer<[u64; 4]> {
             log.len(),
             benchmarks.as_ptr(),
             benchmarks.len(),
+            &mut values,
+            &mut refusal,
+        )
+    };
+    Answer {
+        answered,
+        values,
+        refusal,
+    }
+}
+
+pub fn credited_units(log: &[u8]) -> Answer<[u64; 512]> {
+    let (mut values, mut refusal) = ([UNTOUCHED; 512], [UNTOUCHED; 3]);
+    let answered =
+        unsafe { c::tl_credited_units(log.as_ptr(), log.len(), &mut values, &mut refusal) };
+    Answer {
+        answered,
+        values,
+        refusal,
+    }
+}
+
+/// Writes the listing of credited units to the front of the buffer; its length.
+pub fn credited_listing(log: &[u8], buffer: &mut [u8]) -> Answer<[u64; 1]> {
+    let (mut length, mut refusal) = ([UNTOUCHED; 1], [UNTOUCHED; 3]);
+    let answered = unsafe {
+        c::tl_credited_listing(
+            log.as_ptr(),
+            log.len(),
+            buffer.as_mut_ptr(),
+            buffer.len(),
+            &mut length,
+            &mut refusal,
+        )
+    };
+    Answer {
+        answered,
+        values: length,
+        refusal,
+    }
+}
+
+/// Index and theoretical time of the standard in force.
+pub fn standard_in_force(log: &[u8], lookup: &Lookup) -> Answer<[u64; 2]> {
+    let (mut values, mut refusal) = ([UNTOUCHED; 2], [UNTOUCHED; 3]);
+    let answered = unsafe {
+        c::tl_standard_in_force(
+            log.as_ptr(),
+            log.len(),
+            lookup.module,
+            lookup.recipe,
+            lookup.time,
             &mut values,
             &mut refusal,
         )

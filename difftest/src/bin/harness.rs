@@ -1,11 +1,12 @@
-//! Compares the linked library with the oracle on the generator's logs, with benchmarks for them and on runs of calls that
-//! write them.
+//! Compares the linked library with the oracle on the generator's logs, with lookups in them, with benchmarks for them and on runs
+//! of calls that write them.
 //!
 //! harness SEED COUNT
 
 use difftest::arguments::two_numbers;
 use difftest::comparison::{shown, Comparison};
-use difftest::generator::{benchmarks, make, runs, Expected};
+use difftest::credited::{look_up, Credited};
+use difftest::generator::{benchmarks, lookups, make, runs, Expected};
 use difftest::library::lent;
 use difftest::oracle::account;
 use difftest::supplemental::{answer, Judged};
@@ -39,6 +40,15 @@ fn main() -> ExitCode {
         if !made.expected.agrees(&verdict) {
             lines.push(unexpected(&made.expected));
         }
+        let credited = Credited::of(log, &verdict);
+        tally.count_credited(&credited);
+        comparison.credited(&credited);
+        tally.short_listings += comparison.short_listings;
+        for lookup in lookups::make(seed, index, log, verdict.is_ok()) {
+            let answer = look_up(&credited, &lookup);
+            tally.count_lookup(&credited, &lookup, &answer);
+            comparison.lookup(&lookup, answer);
+        }
         let judged = Judged::of(log, &verdict);
         let refused = judged.as_ref().err().copied();
         let slices = benchmarks::make(seed, index, log, refused);
@@ -70,11 +80,22 @@ fn main() -> ExitCode {
         tally.short_buffers
     );
     print!("{}", tally.losses());
+    print!("{}", tally.credited());
+    println!(
+        "refused 18 list 0: {} listings in a short buffer",
+        tally.short_listings
+    );
+    print!("{}", tally.lookups());
     print!("{}", tally.supplemental());
     print!("{}", tally.writing());
     let all_met = [
         never_met("by a log", &tally.never_met_with_buffers()),
         never_met("by a bar", &tally.never_met_in_losses()),
+        never_met(
+            "by credited units",
+            &tally.never_met_in_credited_with_buffers(),
+        ),
+        never_met("by a lookup", &tally.never_met_in_lookups()),
         never_met("by benchmarks", &tally.never_met_in_supplemental()),
         never_met("by an adding call", &tally.never_met_in_adding()),
         never_met("by a finishing call", &tally.never_met_in_finishing()),

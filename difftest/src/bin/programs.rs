@@ -3,6 +3,7 @@
 //! programs SEED COUNT TOOLLOG
 
 use difftest::arguments::two_numbers;
+use difftest::credited::Credited;
 use difftest::generator::{benchmarks, make};
 use difftest::oracle::{account, Account};
 use difftest::records::{Refusal, BENCHMARKS};
@@ -13,7 +14,7 @@ use std::io::{self, Write};
 use std::path::PathBuf;
 use std::process::{Command, ExitCode, Output, Stdio};
 
-const SUBCOMMANDS: [(&str, fn(&Account) -> Vec<u8>); 4] = [
+const TABLES: [(&str, fn(&Account) -> Vec<u8>); 4] = [
     ("report", Account::report),
     ("times", Account::times),
     ("quantities", Account::quantities),
@@ -42,9 +43,15 @@ fn main() -> ExitCode {
                 differences += 1;
             }
         };
-        for (subcommand, table) in SUBCOMMANDS {
+        let credited = Credited::of(&log, &verdict);
+        tally.count_credited(&credited);
+        let tables = TABLES.map(|(subcommand, table)| {
+            let printed = verdict.as_ref().map(table);
+            (subcommand, printed.map_err(|refusal| *refusal))
+        });
+        let listing = credited.map(|credited| credited.listing());
+        for (subcommand, expected) in tables.into_iter().chain([("credited", listing)]) {
             let printed = run(&program, &[subcommand], &log);
-            let expected = verdict.as_ref().map(table).map_err(|refusal| *refusal);
             compare(subcommand, prints(&printed, INPUT, &expected), printed);
         }
 
@@ -71,7 +78,7 @@ fn main() -> ExitCode {
     if !all_met {
         println!("never met: {never_met:?}");
     }
-    println!("{count} logs, each by five subcommands of toollog, {differences} differences");
+    println!("{count} logs, each by six subcommands of toollog, {differences} differences");
     ExitCode::from(u8::from(differences > 0 || !all_met))
 }
 
