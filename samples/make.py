@@ -22,7 +22,7 @@ NO_PRODUCT = 7
 PROCESS_ENGINEERING = 12
 SET_UP, PREVENTIVE, CONSUMABLES, SCHEDULED_DELAY = 14, 15, 16, 17
 REPAIR = 18
-UNWORKED_SHIFT = 22
+UNWORKED_SHIFT, INSTALLATION = 22, 23
 
 
 def log(period, modules, states, standards, units):
@@ -236,6 +236,13 @@ def longest_benchmarks():
     return made
 
 
+def idle():
+    """A new tool's first week: five days of installation, then nothing to do. It has no standards yet."""
+    states, end = in_turn(0, [(INSTALLATION, 120), (NO_PRODUCT, 48)])
+    assert end == WEEK
+    return log(WEEK, 1, states, [], [])
+
+
 SAMPLES = {
     "case-w": case_w,
     "r1-1": r1_1,
@@ -247,6 +254,7 @@ SAMPLES = {
     "wide": wide,
     "longest": longest,
     "same-shift": same_shift,
+    "idle": idle,
     # One for each number from 2 to 16.
     "refused-period": lambda: shift(period=367 * DAY),
     "refused-modules": lambda: shift(modules=65),
@@ -280,6 +288,7 @@ SAMPLES = {
 BENCHMARKS = {
     "r1-3": r1_3_benchmarks,
     "longest": longest_benchmarks,
+    "idle": lambda: benchmarks([]),
     # R1-3's, one for each number of list 4.
     "refused-benchmark-length": lambda: r1_3_benchmarks()[:-1],
     "refused-benchmark-spare": lambda: last_bit_set(r1_3_benchmarks(), 56),

@@ -1,7 +1,8 @@
 //! The sample logs and benchmarks give their expected output, and the figures that the papers print.
 
+use difftest::credited::Credited;
 use difftest::draft::Draft;
-use difftest::oracle::{account, read, Account};
+use difftest::oracle::{account, read};
 use difftest::records::*;
 use difftest::supplemental::{supplemental, text};
 use std::fs;
@@ -61,24 +62,30 @@ fn expected_output() {
     assert_eq!(samples.len(), files(&folder(), "txt").len());
 }
 
-/// The tables that `toollog` has to print of each accepted sample.
+/// The tables, and the listing, that `toollog` has to print of each accepted sample.
 #[test]
 fn expected_tables() {
-    let tables: [(&str, fn(&Account) -> Vec<u8>); 3] = [
-        ("times", Account::times),
-        ("quantities", Account::quantities),
-        ("losses", Account::losses),
+    type Table = fn(&[u8]) -> Result<Vec<u8>, Refusal>;
+    let tables: [(&str, Table); 4] = [
+        ("times", |log| account(log).map(|it| it.times())),
+        ("quantities", |log| account(log).map(|it| it.quantities())),
+        ("losses", |log| account(log).map(|it| it.losses())),
+        ("credited", listing),
     ];
     for (subcommand, table) in tables {
         let mut accepted = 0;
         for path in files(&folder(), "log") {
-            if let Ok(account) = account(&bytes(&path)) {
-                assert_eq!(table(&account), printed(&path, subcommand), "{path:?}");
+            if let Ok(table) = table(&bytes(&path)) {
+                assert_eq!(table, printed(&path, subcommand), "{path:?}");
                 accepted += 1;
             }
         }
         assert_eq!(accepted, files(&printed_folder(), subcommand).len());
     }
+}
+
+fn listing(log: &[u8]) -> Result<Vec<u8>, Refusal> {
+    Credited::of(log, &account(log)).map(|credited| credited.listing())
 }
 
 /// The figures that `toollog` has to print of each slice of benchmarks, or its refusal. Its log has its name; where there is none, it is that of R1-3.
@@ -244,6 +251,22 @@ fn etcher_by_each_standard() {
         output(&first_only.bytes()),
         bench_report("0.9405 0.8861 0.9524 0.9938 0.7887")
     );
+}
+
+/// The listings of samples/README.md: what each revision of the etcher's recipe judged, and each standard of the shift. A new tool has no standards.
+#[test]
+fn credited_by_hand() {
+    let lines = |name: &str| -> Vec<String> {
+        let listing = String::from_utf8(listing(&log(name)).expect("accepted")).expect("text");
+        listing.lines().map(String::from).collect()
+    };
+    let etcher = [250 + 230, 300 + 310 + 150 + 200 + 160];
+    assert_eq!(etcher, [480, 1_120]);
+    assert_eq!(lines("etcher"), ["0 480", "1 1120"]);
+    // 70 ahead of hour 4, 75 at it and 60 behind it; of module 2, 90 at it and 45 behind it.
+    let shift = ["0 70", "1 135", "2 4", "3 105", "4 0", "5 135"];
+    assert_eq!(lines("same-shift"), shift);
+    assert_eq!(listing(&log("idle")), Ok(Vec::new()));
 }
 
 /// As many records as a log may have, and every figure with a base: the longest log and the longest
