@@ -15,7 +15,7 @@ use Rattle.e79.specs.Quantities.{Ordered}
 use Rattle.rules.specs.declared.Ground.TheVariants.{Spare, StrayModule, Outside, OverGood, TooFast, TooGreat}
 use Rattle.rules.specs.declared.LogList.TheVariants.{NoList, Units}
 use Rattle.std.specs.declared.result.Result.TheVariants.{Ok, Err}
-use Rattle.rules.specs.Grounds.{Verdict, refusal, ground, ◌then◌, first_of, in_turn}
+use Rattle.rules.specs.Grounds.{Verdict, refusal, ground, first_of, in_turn}
 use Rattle.rules.specs.Theoretical.{in_force, time_of, credit, theoretical_time}
 use Rattle.rules.specs.RecordGrounds.{unit_ground, unit_grounds}
 use Rattle.rules.specs.Quantities.{time_in, uptime, actual_time, effective_time, sum_below, module_times, all_times, of_tool, tool_times}

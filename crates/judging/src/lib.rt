@@ -64,10 +64,7 @@ fn over_times(t: StateTimes) -> bool
 // A log judged from nothing: its account, or the first ground met. The header, the state records, the standards and the unit records, the speeds, the
 // tool's sums. The counters, which the caller owes to start at zero, are left with the actual units credited to each standard. They are lent and no part of an account,
 // which is handed on by value.
-pub fn judge_credited<'a>(
-    log: &'a [u8],
-    credited: &mut [u64; 512],
-) -> Result<Account<'a>, Refusal>
+pub fn judge_credited<'a>(log: &'a [u8], credited: &mut [u64; 512]) -> Result<Account<'a>, Refusal>
     requires { credited.old ≡ replicate 512 0 }
     ensures judged { MatchResult result (λ a. a.log.bytes ≡ log.entry) (λ x. verdict log.entry.now ≡ Err x) }
     ensures credited { IfOk result (λ _. credited.new ≡ credits_of (decode log.entry.now)) }

@@ -3,14 +3,13 @@
 use mathlib.Core.Path.{◌≡◌, refl, sym, ap, ◌∙◌}
 use mathlib.Core.Bool.{not}
 use mathlib.Core.List.{List}
-use Prim.Native.Nat.{ℕ, ◌+◌, ◌*◌, ◌≤◌}
+use Prim.Native.Nat.{ℕ, ◌*◌, ◌≤◌}
 use native.Mathlib.Omega.{arith}
 use lib.Dec.{ltb, eqb}
 use lib.ListN.{length}
 use borrow.Author.Tests.{eq-eqb}
 use Rattle.records.specs.declared.Header.{Header}
 use Rattle.records.specs.Log.{Log, up_to, header_of, standard_at, unit_at, decode}
-use Rattle.records.specs.Covers.{Covers}
 use Rattle.rules.specs.declared.Refusal.{Refusal}
 use Rattle.rules.specs.declared.Ground.TheVariants.{Length, Spare, NoTime, AboveStandard, OverCounted}
 use Rattle.rules.specs.declared.LogList.TheVariants.{Benchmarks}

@@ -178,7 +178,16 @@ fn credit_listed(
     let mut byte = log.begin();
     // By index, which a refusal names; `byte` goes along, since a place worked out from the index at each record is slower.
     for i in 0..log.header.units {
-        credit_unit(log, i, byte, standards, &mut before, actual, effective, credited)?;
+        credit_unit(
+            log,
+            i,
+            byte,
+            standards,
+            &mut before,
+            actual,
+            effective,
+            credited,
+        )?;
         byte += 11;
     }
     Ok(())

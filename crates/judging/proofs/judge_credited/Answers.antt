@@ -1,9 +1,8 @@
 -- `judging::judge_credited` meets its contract: the header, the state records, the standards with the unit records, and the sums are tested in turn.
 -- Assumes nothing.
-use mathlib.Core.Path.{◌≡◌, refl, sym, ap, ◌∙◌}
+use mathlib.Core.Path.{◌≡◌, refl, sym, ◌∙◌}
 use native.Mathlib.Omega.{arith}
 use Rattle.std.specs.declared.result.Result.TheVariants.{Ok, Err}
-use Rattle.records.specs.Log.{decode}
 use Rattle.rules.specs.Verdict.{header_grounds}
 use Rattle.judging.proofs.Judging.{counted, header_period, header_modules, judged_header, judged_states, judged_units, held, all_credited, judged_speeds, judged_greats, all_consistent, all_accepted}
 use Rattle.judging.proofs.judge_credited.Goals as goal

@@ -4,7 +4,6 @@ use mathlib.Core.Path.{sym, ap, ◌∙◌}
 use Prim.Native.Nat.{ℕ, ◌+◌, ◌*◌, ◌≤◌}
 use native.Mathlib.Omega.{arith}
 use lib.ListN.{get_or}
-use Rattle.rules.specs.Quantities.{sum_below}
 use Rattle.rules.proofs.SumLaws.{sum-none, sum_more, sum_low}
 use Rattle.judging.proofs.sums.sum_modules.Goals as goal
 
