@@ -2,7 +2,10 @@
 // A buffer and a place: see `filling`.
 #![tactic(auto)]
 
-ghost use Rattle.std.specs.Prelude.{◌≡◌, ◌+◌, ◌≤◌, ◌<◌, ℕ, length, get_or};
+ghost use Rattle.std.specs.Prelude.{◌≡◌, ◌+◌, ◌≤◌, ◌<◌, ℕ, length, get_or, MatchResult};
+ghost use Rattle.std.specs.declared.result.Result.TheVariants.{Ok, Err};
+ghost use Rattle.records.specs.Log.{decode};
+ghost use Rattle.rules.specs.Verdict.{verdict};
 ghost use Rattle.filling.specs.Buffer.{Put, AtFront};
 ghost use Rattle.report.specs.Report.{joined};
 ghost use Rattle.reporting.specs.Reports.{Prints};
@@ -37,15 +40,22 @@ fn put_credits(buf: &mut [u8], standards: usize, credited: &[u64; 512]) -> usize
     next
 }
 
+// The listing of a log's credited units, at the front of the buffer, and its length; or why the log is refused.
+fn put_listing(log: &[u8], buf: &mut [u8; 7168]) -> Result<usize, Refusal>
+    ensures { MatchResult result (λ n. (verdict log.now ≡ Ok tt) × AtFront (credit_listing (decode log.now)) 7168 buf.old n buf.new) (λ x. (verdict log.now ≡ Err x) × (buf.new ≡ buf.old)) }
+{
+    let mut credited = [0u64; 512];
+    let account = judging::judge_credited(log, &mut credited)?;
+    Ok(put_credits(buf, account.log.header.standards, &credited))
+}
+
 // Writes the listing of credited units to the front of the buffer and answers its length, or why nothing is written: a log without standards has a listing of 0 bytes. It is
 // put together apart, so that its length is known before a byte of the buffer changes.
 pub fn credited_listing(log: &[u8], buf: &mut [u8]) -> Result<usize, Refusal>
     ensures { TextWritten credit_listing 7168 log.now buf.old result buf.new }
 {
-    let mut credited = [0u64; 512];
-    let account = judging::judge_credited(log, &mut credited)?;
     let mut space = [0u8; 7168];
-    let size = put_credits(&mut space, account.log.header.standards, &credited);
+    let size = put_listing(log, &mut space)?;
     Ground::ShortBuffer.refuses(buf.len() < size, LogList::NoList, 0)?;
     Ok(filling::put_text(buf, 0, &space[..size]))
 }
@@ -55,9 +65,8 @@ pub fn credited_listing(log: &[u8], buf: &mut [u8]) -> Result<usize, Refusal>
 pub fn print_credited(log: &[u8], buf: &mut [u8; 7168]) -> usize
     ensures { Prints credit_listing 7168 log.now buf.old result buf.new }
 {
-    let mut credited = [0u64; 512];
-    match judging::judge_credited(log, &mut credited) {
-        Ok(account) => put_credits(buf, account.log.header.standards, &credited),
+    match put_listing(log, buf) {
+        Ok(size) => size,
         Err(x) => report::put_refused_line(buf, x),
     }
 }
