@@ -117,7 +117,7 @@ enum { TL_NUMBER, TL_LIST, TL_PLACE, TL_REFUSAL };
     X(15, "no standard", "none in force for a unit record") \
     X(16, "too fast", "a module's actual theoretical time above its production time") \
     X(17, "too great", "a tool sum above 9,007,199,254,740,991 ms") \
-    X(18, "short buffer", "report longer than the buffer, or a record that does not fit at its position") \
+    X(18, "short buffer", "report or listing longer than the buffer, or a record that does not fit at its position") \
     X(19, "unsorted", "out of rising sequence: standards by module, recipe and start, units by time, module and recipe") \
     X(20, "above standard", "a time of a benchmark above its standard's theoretical time") \
     X(21, "over-counted", "total effective units of a benchmark above the effective units judged by its standard") \

@@ -40,7 +40,7 @@ REFUSALS = {
     15: ("no standard", "none in force for a unit record"),
     16: ("too fast", "a module's actual theoretical time above its production time"),
     17: ("too great", "a tool sum above 9,007,199,254,740,991 ms"),
-    18: ("short buffer", "report longer than the buffer, or a record that does not fit at its position"),
+    18: ("short buffer", "report or listing longer than the buffer, or a record that does not fit at its position"),
     19: ("unsorted", "out of rising sequence: standards by module, recipe and start, units by time, module and recipe"),
     20: ("above standard", "a time of a benchmark above its standard's theoretical time"),
     21: ("over-counted", "total effective units of a benchmark above the effective units judged by its standard"),

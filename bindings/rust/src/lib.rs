@@ -66,7 +66,7 @@ pub const GROUNDS: [(Ground, &str, &str); 22] = [
     (NoStandard, "no standard", "none in force for a unit record"),
     (TooFast, "too fast", "a module's actual theoretical time above its production time"),
     (TooGreat, "too great", "a tool sum above 9,007,199,254,740,991 ms"),
-    (ShortBuffer, "short buffer", "report longer than the buffer, or a record that does not fit at its position"),
+    (ShortBuffer, "short buffer", "report or listing longer than the buffer, or a record that does not fit at its position"),
     (Unsorted, "unsorted", "out of rising sequence: standards by module, recipe and start, units by time, module and recipe"),
     (AboveStandard, "above standard", "a time of a benchmark above its standard's theoretical time"),
     (OverCounted, "over-counted", "total effective units of a benchmark above the effective units judged by its standard"),

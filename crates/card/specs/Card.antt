@@ -35,7 +35,7 @@ card =
     ++ row "no standard" "none in force for a unit record" "a recipe that ran ahead of its first standard, or at a module that has none for it"
     ++ row "too fast" "a module's actual theoretical time above its production time" "a standard that is too long, or productive time logged as something else"
     ++ row "too great" "a tool sum above 9,007,199,254,740,991 ms" "no log can reach it"
-    ++ row "short buffer" "report longer than the buffer, or a record that does not fit at its position" "lend 2,494 bytes, which hold every report; 63,130 hold every log"
+    ++ row "short buffer" "report or listing longer than the buffer, or a record that does not fit at its position" "lend 2,494 bytes, which hold every report; 7,168 hold every listing, 63,130 every log"
     ++ row "unsorted" "out of rising sequence: standards by module, recipe and start, units by time, module and recipe" "sort the list by these fields, ascending; merge unit records that agree in all three"
     ++ row "above standard" "a time of a benchmark above its standard's theoretical time" "benchmarks out of the standards' sequence, or those of another revision"
     ++ row "over-counted" "total effective units of a benchmark above the effective units judged by its standard" "units of another period or revision; scrap or rework of this tool counted as good"

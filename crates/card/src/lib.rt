@@ -110,8 +110,8 @@ fn row_of(ground: Ground) -> Row
         },
         Ground::ShortBuffer => Row {
             word: b"short buffer",
-            meaning: b"report longer than the buffer, or a record that does not fit at its position",
-            look_for: b"lend 2,494 bytes, which hold every report; 63,130 hold every log",
+            meaning: b"report or listing longer than the buffer, or a record that does not fit at its position",
+            look_for: b"lend 2,494 bytes, which hold every report; 7,168 hold every listing, 63,130 every log",
         },
         Ground::Unsorted => Row {
             word: b"unsorted",
