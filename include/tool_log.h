@@ -225,7 +225,7 @@ uint32_t tl_credited_listing(const uint8_t *log, size_t log_len, uint8_t *buf, s
 /*
  * The standard in force for a module, a recipe and a time: of the module's standards for the recipe the one with the latest start at or before the
  * time, which may be past the period. None is in force ahead of the first start, nor for a recipe that the module has no standard for, as every one
- * above 1,023. Refused where the log is.
+ * above 1,023. Answers 1, or 2 where none is in force: test for 1. Refused where the log is. Each call judges the log first.
  */
 uint32_t tl_standard_in_force(const uint8_t *log, size_t log_len, size_t module, size_t recipe, uint64_t time, uint64_t standard[2],
                               uint64_t refusal[3]);

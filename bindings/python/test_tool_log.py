@@ -445,27 +445,40 @@ class Revisions(Case):
         credited = tool_log.credited_units(log)
         self.assertEqual(credited, (*due, *[0] * (512 - len(due))))
         self.assertEqual(sum(credited), sum(actual for *_, actual, _ in units))
-        self.assertEqual(tool_log.credited_listing(log).decode(), "".join(f"{index} {n}\n" for index, n in enumerate(due)))
+        self.assertEqual(tool_log.credited_listing(log), "".join(f"{index} {n}\n" for index, n in enumerate(due)))
 
     def test_by_hand(self):
         log = productive(100000, 2, R_STANDARDS, R_UNITS)
         credited = tool_log.credited_units(log)
         self.assertEqual((type(credited), len(credited), credited[:8]), (tuple, 512, (30, 70, 0, 101, 7, 5, 99970, 0)))
-        self.assertEqual(tool_log.credited_listing(log), b"0 30\n1 70\n2 0\n3 101\n4 7\n5 5\n6 99970\n7 0\n")
+        self.assertEqual(tool_log.credited_listing(log), "0 30\n1 70\n2 0\n3 101\n4 7\n5 5\n6 99970\n7 0\n")
         self.assertEqual(tool_log.credited_listing(bytearray(log)), tool_log.credited_listing(log))
         for module, recipe, time, due in (
             (0, 3, 0, (0, 5)), (0, 3, 3999, (0, 5)), (0, 3, 4000, (1, 4)), (0, 3, 7999, (2, 2**27 - 1)), (0, 3, 8000, (3, 2)),
             (0, 7, 1999, None), (0, 7, 2000, (4, 2)), (1, 3, 3999, None), (1, 3, 4000, (5, 6)), (1, 7, 99999, None),
             (1, 1023, 9998, None), (1, 1023, 9999, (6, 1)), (1, 1023, 99998, (6, 1)), (1, 1023, 99999, (7, 3)), (1, 1024, 99999, None),
         ):
-            self.assertEqual(tool_log.standard_in_force(log, module, recipe, time), due)
+            self.assertEqual(tool_log.standard_in_force(log, module, recipe, time), due and InForce(*due))
         found = tool_log.standard_in_force(log, module=1, recipe=3, time=2**64 - 1)
         self.assertEqual((found.index, found.time), (5, 6))
         self.assertEqual(tuple(revisions.standards(log)), R_STANDARDS)
 
+    def test_lent(self):
+        log = productive(100000, 2, R_STANDARDS, R_UNITS)
+        listing = tool_log.credited_listing(log).encode()
+        for room in (0, 1, len(listing) - 1):
+            buffer = bytearray(b"\xa5" * room)
+            self.refused(18, 0, 0, tool_log.credited_listing_into, log, buffer)
+            self.assertEqual(buffer, b"\xa5" * room)
+        for more in (0, 1, 7168):
+            buffer = bytearray(b"\xa5" * (len(listing) + more))
+            self.assertEqual(tool_log.credited_listing_into(log, buffer), len(listing))
+            self.assertEqual(buffer, listing + b"\xa5" * more)
+        self.assertEqual(tool_log.credited_listing_into(idle(), bytearray()), 0)
+
     def test_no_standards(self):
         self.credited_are(idle(), [], [])
-        self.assertEqual(tool_log.credited_listing(idle()), b"")
+        self.assertEqual(tool_log.credited_listing(idle()), "")
         self.assertIsNone(tool_log.standard_in_force(idle(), 0, 0, 2**64 - 1))
         self.assertEqual(list(revisions.standards(idle())), [])
 

@@ -10,7 +10,7 @@ import ctypes
 import os
 import pathlib
 from dataclasses import dataclass
-from typing import NamedTuple, Optional
+from typing import Optional
 
 LONGEST_REPORT = 2494
 LONGEST_LOG = 63130
@@ -118,7 +118,8 @@ class Losses:
     oee: int
 
 
-class InForce(NamedTuple):
+@dataclass(frozen=True)
+class InForce:
     """A standard: its index in the log's list, and its theoretical time in ms."""
 
     index: int
@@ -212,6 +213,11 @@ def _numbers(answer, array, function, log, *arguments):
 # ---- what a dashboard calls
 
 
+def _lent(buffer: bytearray):
+    # An array of at least one byte, since a pointer to none may be null.
+    return (ctypes.c_char * len(buffer)).from_buffer(buffer) if buffer else ctypes.create_string_buffer(1)
+
+
 def examine(log, room: int = LONGEST_REPORT) -> None:
     """Returns where the log is accepted and its report fits `room` bytes, and raises Refused elsewhere."""
     _ask(_examine, log, _within("room", room))
@@ -220,8 +226,7 @@ def examine(log, room: int = LONGEST_REPORT) -> None:
 def report_into(log, buffer: bytearray) -> int:
     """Writes the report to the front of the buffer and answers its length. Raises Refused, with no byte changed, where examine does for its length."""
     log = _bytes(log)
-    # An array of at least one byte, since a pointer to none may be null.
-    lent = (ctypes.c_char * len(buffer)).from_buffer(buffer) if buffer else ctypes.create_string_buffer(1)
+    lent = _lent(buffer)
     written = _report(log, len(log), ctypes.addressof(lent), len(buffer))
     if not written:
         examine(log, len(buffer))
@@ -291,11 +296,17 @@ def credited_units(log) -> tuple[int, ...]:
     return _numbers(lambda *units: units, _Units, _credited_units, log)
 
 
-def credited_listing(log) -> bytes:
+def credited_listing_into(log, buffer: bytearray) -> int:
+    """Writes the listing to the front of the buffer and returns its length. Where the log is refused, or the buffer is shorter, no byte changes."""
+    length = _Length()
+    _ask(_credited_listing, log, _lent(buffer), len(buffer), ctypes.byref(length))
+    return length[0]
+
+
+def credited_listing(log) -> str:
     """A line of each standard's index and credited units. That of a log without standards is empty."""
-    listing, length = ctypes.create_string_buffer(CREDITED_LISTING_ROOM), _Length()
-    _ask(_credited_listing, log, listing, len(listing), ctypes.byref(length))
-    return listing[: length[0]]
+    buffer = bytearray(CREDITED_LISTING_ROOM)
+    return buffer[: credited_listing_into(log, buffer)].decode("ascii")
 
 
 def standard_in_force(log, module: int, recipe: int, time: int) -> Optional[InForce]:

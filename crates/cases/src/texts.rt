@@ -31,7 +31,7 @@ fn says(x: Refusal, expected: &[u8]) -> bool
 }
 
 // Whether `examine` and `report` answer and write what is expected: the report, or the line of the refusal and nothing written.
-#[tactic(auto, unfolding(crate::specs::Texts::text_for, reporting::specs::Reports::written_part))]
+#[tactic(auto, unfolding(crate::specs::Texts::text_for, reporting::specs::Reports::text_written))]
 pub fn reports(log: &[u8], space: &mut [u8], room: usize, expected: &[u8]) -> bool
     requires { room ≤ length space.old }
     ensures expected_value { result ≡ true → expected.now ≡ text_for log.now room }

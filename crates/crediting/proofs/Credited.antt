@@ -14,15 +14,14 @@ use Rattle.rules.specs.declared.Placed.{Placed}
 use Rattle.rules.specs.Theoretical.{Answers, in_force, last_in_force}
 use Rattle.rules.specs.Credited.{credited_to, credits_of, units_of}
 use Rattle.rules.specs.Quantities.{sum_below}
-use Rattle.rules.specs.Verdict.{verdict, header_grounds, record_grounds}
-use Rattle.rules.proofs.FirstGround.{then-left}
+use Rattle.rules.specs.Verdict.{verdict}
 use Rattle.rules.proofs.InForce.{in_force_lem}
 use Rattle.rules.proofs.Judged.{passed, none_judged, all_judged}
 use Rattle.rules.proofs.LastInForce.{last_in_force_lem}
 use Rattle.rules.proofs.Risen.{lists-accepted, risen}
 use Rattle.rules.proofs.SumLaws.{sum_same}
-use Rattle.judging.proofs.Judging.{counted}
-use Rattle.crediting.specs.Calls.{AllCredited, used, Uses}
+use Rattle.judging.proofs.Judging.{accepted_counts}
+use Rattle.crediting.specs.Calls.{AllCredited, in_force_of, Uses}
 
 -- ---- the credited units
 
@@ -36,8 +35,7 @@ module _ (s : List ℕ) (e : verdict s ≡ Ok tt) where
   listed = length_up_to (standard_at s (header_of s)) (header_of s).standards
 
   few : (header_of s).standards ≤ 512
-  unfolding verdict
-  few = (counted s (header_of s) refl (then-left (header_grounds s) (record_grounds (decode s)) e)).counts.1
+  few = (accepted_counts s e).counts.1
 
   in_all : sum_below (credited_to (decode s)) (header_of s).standards ≡ units_of (λ u. u.actual) (decode s).units
   unfolding decode credited_to
@@ -58,7 +56,7 @@ module _ (s : List ℕ) (e : verdict s ≡ Ok tt) where
 
 -- ---- the standard in force
 
-in_words : (at : ℕ → Standard) (n m recipe time : ℕ) (o : Option Placed) → Answers at n m recipe time o → Uses at n m recipe time (used o)
+in_words : (at : ℕ → Standard) (n m recipe time : ℕ) (o : Option Placed) → Answers at n m recipe time o → Uses at n m recipe time (in_force_of o)
 in_words at n m recipe time none a = a
 in_words at n m recipe time (some p) f =
     let same = f.same in
@@ -70,12 +68,12 @@ in_words at n m recipe time (some p) f =
       latest = rw same at f.latest;
     }
 
-pub uses_lem : (s : List ℕ) (m recipe time : ℕ) → Uses (standard_at s (header_of s)) (header_of s).standards m recipe time (used (in_force (decode s).standards m recipe time))
+pub uses_lem : (s : List ℕ) (m recipe time : ℕ) → Uses (standard_at s (header_of s)) (header_of s).standards m recipe time (in_force_of (in_force (decode s).standards m recipe time))
 unfolding decode
 uses_lem s m recipe time = in_words (standard_at s (header_of s)) (header_of s).standards m recipe time _ (in_force_lem (standard_at s (header_of s)) m recipe time (header_of s).standards)
 
 -- the standards of an accepted log rise, so the last of them that has begun is in force
 pub last_used : (s : List ℕ) → verdict s ≡ Ok tt → (m recipe time : ℕ)
-    → used (last_in_force (up_to (standard_at s (header_of s)) (header_of s).standards) m recipe time) ≡ used (in_force (decode s).standards m recipe time)
+    → in_force_of (last_in_force (up_to (standard_at s (header_of s)) (header_of s).standards) m recipe time) ≡ in_force_of (in_force (decode s).standards m recipe time)
 unfolding decode
-last_used s e m recipe time = ap used (last_in_force_lem (decode s).standards m recipe time (risen s e).standards)
+last_used s e m recipe time = ap in_force_of (last_in_force_lem (decode s).standards m recipe time (risen s e).standards)

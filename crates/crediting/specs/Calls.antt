@@ -30,9 +30,9 @@ CreditedUnits s r = Given (verdict s) (credits_of (decode s)) (AllCredited (deco
 -- ---- the standard in force
 
 -- what is answered of it: its index and its time
-abbrev pub used : math.Option Placed → Option InForce
-used none = None
-used (some p) = Some (record { index = p.index; time = p.standard.theoretical })
+abbrev pub in_force_of : math.Option Placed → Option InForce
+in_force_of none = None
+in_force_of (some p) = Some (record { index = p.index; time = p.standard.theoretical })
 
 -- the same in the papers' own words, of the standards at 0, at 1, .. , n of them: f is one of them, is for that module and recipe, starts at or before the time, and
 -- no other such standard starts later
@@ -43,11 +43,11 @@ pub record Used (at : ℕ → Standard) (n m recipe time : ℕ) (f : InForce) : 
   pub begun : (at f.index).start ≤ time
   pub latest : (i : ℕ) → i < n → For m recipe (at i) → (at i).start ≤ time → (at i).start ≤ (at f.index).start
 
--- one in force, or none, where none starts at or before the time
+-- one in force, or none, where no standard for that module and recipe starts at or before the time
 abbrev pub Uses : (ℕ → Standard) → ℕ → ℕ → ℕ → ℕ → Option InForce → Type 0
 Uses at n m recipe time None = (i : ℕ) → i < n → For m recipe (at i) → (at i).start ≤ time → ⊥
 Uses at n m recipe time (Some f) = Used at n m recipe time f
 
 abbrev pub StandardInForce : List ℕ → ℕ → ℕ → ℕ → Result (Option InForce) Refusal → Type 0
 StandardInForce s m recipe time r =
-    Given (verdict_on s m) (used (in_force (decode s).standards m recipe time)) (Uses (standard_at s (header_of s)) (header_of s).standards m recipe time) (OnModule s m) r
+    Given (verdict_on s m) (in_force_of (in_force (decode s).standards m recipe time)) (Uses (standard_at s (header_of s)) (header_of s).standards m recipe time) (OnModule s m) r

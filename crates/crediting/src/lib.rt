@@ -4,7 +4,7 @@
 ghost use Rattle.std.specs.Prelude.{◌≡◌, ◌∷◌, []};
 ghost use Rattle.records.specs.Log.{up_to, standard_at};
 ghost use Rattle.rules.specs.Theoretical.{has_begun, last_in_force};
-ghost use Rattle.crediting.specs.Calls.{used, CreditedUnits, StandardInForce};
+ghost use Rattle.crediting.specs.Calls.{in_force_of, CreditedUnits, StandardInForce};
 
 use records::{Standard, StandardRecords};
 use rules::Refusal;
@@ -40,15 +40,15 @@ fn has_begun(s: Standard, module: usize, recipe: usize, time: u64) -> bool
     (s.module == module && s.recipe == recipe) && s.start <= time
 }
 
-// The walk over the standards from the last: they rise, so the first on the way that has begun is the latest. No listing of them, which is for many units and whose
-// recipes are below 1,024.
+// The walk over the standards from the last: they rise, so the first on the way that has begun is the latest. `theoretical::Standards` is not built: that pays for many
+// units, and asks for recipes below 1,024.
 fn last_begun(
     standards: StandardRecords<'_>,
     module: usize,
     recipe: usize,
     time: u64,
 ) -> Option<InForce>
-    ensures { result ≡ used (last_in_force (up_to (standard_at standards.entry.bytes.now standards.entry.header) standards.entry.header.standards) «module» recipe time) }
+    ensures { result ≡ in_force_of (last_in_force (up_to (standard_at standards.entry.bytes.now standards.entry.header) standards.entry.header.standards) «module» recipe time) }
 {
     for index in (0..standards.header.standards).rev() {
         let s = standards.record(index);

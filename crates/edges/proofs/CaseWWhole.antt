@@ -14,7 +14,7 @@ use Rattle.rules.specs.Time.{count}
 use Rattle.rules.specs.Quantities.{sum_below, actual_time, effective_time, of_tool}
 use Rattle.rules.specs.Verdict.{verdict}
 use Rattle.losses.specs.Losses.{losses_of}
-use Rattle.reporting.specs.Reports.{report_text, verdict_for_text, verdict_for, written_by, written_part}
+use Rattle.reporting.specs.Reports.{report_text, verdict_for_text, verdict_for, written_by, text_written, written_part}
 use Rattle.edges.specs.CaseW.{case_w, case_w_log, case_w_report, CaseW}
 use Rattle.edges.proofs.ByStretches.{verdict_by, verdict_by-stretches, report_by, report_by-stretches, tool_by-stretches}
 
@@ -25,7 +25,7 @@ module _ (s text : List ℕ) (a : verdict s ≡ Ok tt) (r : report_text (decode 
   for-room = ap₂ (λ (v : Verdict) (t : List ℕ). v then ground ShortBuffer NoList 0 (ltb room (length t))) a r
 
   part : written_part s room ≡ written_by (ground ShortBuffer NoList 0 (ltb room (length text))) text
-  unfolding written_part
+  unfolding text_written
   part = ap₂ written_by for-room r
 
 accepted : verdict case_w ≡ Ok tt

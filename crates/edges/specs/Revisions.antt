@@ -8,7 +8,7 @@ use Rattle.rules.specs.Theoretical.{in_force}
 use Rattle.rules.specs.Verdict.{verdict}
 use Rattle.report.specs.Text.{ascii}
 use Rattle.crediting.specs.declared.InForce.{InForce}
-use Rattle.crediting.specs.Calls.{used}
+use Rattle.crediting.specs.Calls.{in_force_of}
 use Rattle.listing.specs.Listings.{credit_listing}
 use Rattle.edges.specs.Cases.{state, standard_of, log}
 use Rattle.edges.specs.CaseW.{case_w}
@@ -18,7 +18,7 @@ abbrev pub made : ℕ → ℕ → ℕ → ℕ → UnitRecord
 made m time actual effective = record { «module» = m; recipe = 7; time = time; actual = actual; effective = effective; spare = 0 }
 
 -- a hundred productive milliseconds of two modules. Module 0's recipe 7 has three revisions, from 0, 10 and 99 on; module 1's has one, from 20 on.
--- One unit before the second revision, two at its start, one of them good, and four later; the third judges none
+-- One unit before the second revision, two at its start, one of them good, and four later; the third judges none. Module 1's judges five, at its start
 abbrev pub revised : List ℕ
 revised =
     encode
@@ -31,7 +31,7 @@ idle = encode (log 100 2 (state 0 0 0 ∷ state 1 0 0 ∷ []) [] [])
 
 -- what is in force in that log
 abbrev pub force_on : ℕ → ℕ → ℕ → Option InForce
-force_on m recipe time = used (in_force (decode revised).standards m recipe time)
+force_on m recipe time = in_force_of (in_force (decode revised).standards m recipe time)
 
 pub record Revisions : Type 0 where
   pub accepted : verdict revised ≡ Ok tt

@@ -150,6 +150,11 @@ module _ (s : List ℕ) where
           pub all_accepted : verdict s ≡ Ok tt
           all_accepted = by_greats ∙ ap (ground TooGreat NoList 0) (none_over (decode s) all_consistent)
 
+-- what that of an accepted log tells
+pub accepted_counts : (s : List ℕ) → verdict s ≡ Ok tt → Counted (length s) (header_of s)
+unfolding verdict
+accepted_counts s e = counted s (header_of s) refl (then-left (header_grounds s) (record_grounds (decode s)) e)
+
 -- what the header read first tells of the log
 module _ (s : List ℕ) (h : Header) (eh : h ≡ header_of s) where
   pub header_period : h.period ≡ (decode s).period

@@ -16,8 +16,7 @@ use Rattle.rules.specs.declared.Ground.TheVariants.{ShortBuffer}
 use Rattle.rules.specs.declared.LogList.TheVariants.{NoList}
 use Rattle.rules.specs.Grounds.{Verdict, ground}
 use Rattle.rules.specs.Credited.{credited_to, credits_of}
-use Rattle.rules.specs.Verdict.{verdict, header_grounds, record_grounds}
-use Rattle.rules.proofs.FirstGround.{then-left}
+use Rattle.rules.specs.Verdict.{verdict}
 use Rattle.rules.proofs.Given.{never, given_refused, given_answered}
 use Rattle.rules.proofs.KnownRefusals.{log-refusal}
 use Rattle.filling.specs.Buffer.{Put}
@@ -25,10 +24,10 @@ use Rattle.filling.proofs.Written.{written-front}
 use Rattle.report.specs.Report.{joined}
 use Rattle.report.proofs.Tables.{joined_same}
 use Rattle.theoretical.proofs.Counting.{judged_low}
-use Rattle.judging.proofs.Judging.{counted}
-use Rattle.reporting.specs.Reports.{verdict_for_text, ForText, of_log, written_by}
+use Rattle.judging.proofs.Judging.{accepted_counts}
+use Rattle.reporting.specs.Reports.{verdict_for_text, ForText, of_log, written_by, text_written}
 use Rattle.reporting.proofs.Reporting.{room_refused, for-room, room_enough, refused_short}
-use Rattle.listing.specs.Listings.{credit_line, credit_listing, text_written, TextWritten}
+use Rattle.listing.specs.Listings.{credit_line, credit_listing, TextWritten}
 
 -- ---- any text
 
@@ -69,12 +68,8 @@ module _ (text : Log → List ℕ) (most : ℕ) (s b : List ℕ) where
 -- ---- the listing of credited units
 
 module _ (s : List ℕ) (e : verdict s ≡ Ok tt) where
-  counts : ((header_of s).standards ≤ 512) × ((header_of s).units ≤ 2000)
-  unfolding verdict
-  counts = let n = counted s (header_of s) refl (then-left (header_grounds s) (record_grounds (decode s)) e) in (n.counts.1, n.counts.2)
-
   pub standards_few : (header_of s).standards ≤ 512
-  standards_few = counts.0
+  standards_few = (accepted_counts s e).counts.1
 
   -- 2,000 records of at most 65,535 units: nine digits
   pub credits_low : (i : ℕ) → i < 512 → get_or (credits_of (decode s)) i 0 < 1000000000
@@ -82,7 +77,7 @@ module _ (s : List ℕ) (e : verdict s ≡ Ok tt) where
   credits_low i h =
       let head = header_of s in
       rw (up_to_at (credited_to (decode s)) 512 i 0 h)
-      (omega (arith, judged_low (λ u. u.actual) (decode s).standards (unit_at s head) (λ k. (unit-fits s (80 + 48 * head.states + 80 * head.standards + 88 * k)).1.1.1.0) head.units i, counts.1))
+      (omega (arith, judged_low (λ u. u.actual) (decode s).standards (unit_at s head) (λ k. (unit-fits s (80 + 48 * head.states + 80 * head.standards + 88 * k)).1.1.1.0) head.units i, (accepted_counts s e).counts.2))
 
   pub lists_credits : joined (λ i. credit_line i (get_or (credits_of (decode s)) i 0)) (header_of s).standards ≡ credit_listing (decode s)
   unfolding credit_listing credits_of decode

@@ -8,7 +8,7 @@ use Rattle.rules.specs.Answers.{Given}
 use Rattle.rules.specs.Credited.{credited_to}
 use Rattle.report.specs.Text.{ascii}
 use Rattle.report.specs.Report.{decimal, joined}
-use Rattle.reporting.specs.Reports.{verdict_for_text, ForText, written_by}
+use Rattle.reporting.specs.Reports.{verdict_for_text, ForText, text_written}
 
 -- a standard's line: its index, a space, its units, and byte 10, in which each line ends
 unfoldable pub credit_line : ℕ → ℕ → List ℕ
@@ -20,11 +20,6 @@ unfolding joined credit_line credited_to
 credit_listing l = joined (λ i. credit_line i (credited_to l i)) (length l.standards)
 
 -- ---- a text about a log, in a lent buffer
-
--- what is written: the text where the verdict for the buffer accepts, and nothing where it refuses
-unfoldable pub text_written : (Log → List ℕ) → List ℕ → ℕ → List ℕ
-unfolding verdict_for_text decode
-text_written text s room = written_by (verdict_for_text text s room) (text (decode s))
 
 -- the text's length is answered, or the refusal, since 0 bytes may be a text; it stands at the front of the buffer, and the bytes behind it, or all, are as they were
 pub record TextWritten (text : Log → List ℕ) (most : ℕ) (s before : List ℕ) (r : Result ℕ Refusal) (after : List ℕ) : Type 0 where

@@ -26,7 +26,7 @@ use Rattle.report.proofs.Lengths.{heading-length, length-report}
 use Rattle.report.proofs.Tables.{table_length}
 use Rattle.filling.proofs.Written.{written-front, at_front, front-more}
 use Rattle.judging.specs.Working.{Consistent}
-use Rattle.reporting.specs.Reports.{printed_by, printed, Prints, report_text, verdict_for_text, verdict_for, ForText, of_log, short, Examined, written_by, written_part, Written}
+use Rattle.reporting.specs.Reports.{printed_by, printed, Prints, report_text, verdict_for_text, verdict_for, ForText, of_log, short, Examined, written_by, text_written, written_part, Written}
 use Rattle.rules.proofs.KnownRefusals.{log-refusal}
 
 -- ---- the length of a report
@@ -74,7 +74,7 @@ module _ (s : List ℕ) (room : ℕ) where
 -- ---- what is written
 
 pub written_none : (s b : List ℕ) (x : Refusal) → verdict_for s (length b) ≡ Err x → Written s b 0 b
-unfolding written_part
+unfolding text_written
 written_none s b x e =
     let part : written_part s (length b) ≡ [] = ap (λ (w : Verdict). written_by w (report_text (decode s))) e in
     record {
@@ -86,7 +86,7 @@ written_none s b x e =
     }
 
 pub written_all : (s b : List ℕ) (r : ℕ) (a : List ℕ) → Consistent (decode s) → verdict_for s (length b) ≡ Ok tt → length (report_text (decode s)) ≤ length b → Put (report_text (decode s)) b 0 r a → Written s b r a
-unfolding written_part report_text
+unfolding text_written report_text
 written_all s b r a consistent e h p =
     let text = report_text (decode s) in
     let part : written_part s (length b) ≡ text = ap (λ (w : Verdict). written_by w text) e in

@@ -39,14 +39,18 @@ pub record Examined (s : List ℕ) (room : ℕ) (r : Verdict) : Type 0 where
   pub answer : r ≡ verdict_for s room
   pub refusal : (x : Refusal) → r ≡ Err x → ForRoom s room x
 
--- what is written: the report where the verdict accepts, and nothing where it refuses
+-- what is written: the text where the verdict accepts, and nothing where it refuses
 abbrev pub written_by : Verdict → List ℕ → List ℕ
 written_by (Ok tt) text = text
 written_by (Err x) text = []
 
-unfoldable pub written_part : List ℕ → ℕ → List ℕ
-unfolding verdict_for_text report_text decode
-written_part s room = written_by (verdict_for s room) (report_text (decode s))
+unfoldable pub text_written : (Log → List ℕ) → List ℕ → ℕ → List ℕ
+unfolding verdict_for_text decode
+text_written text s room = written_by (verdict_for_text text s room) (text (decode s))
+
+-- of the report
+abbrev pub written_part : List ℕ → ℕ → List ℕ
+written_part s room = text_written report_text s room
 
 -- the length of the written part is answered, it stands at the front of the buffer, and the bytes behind it are as they were
 pub record Written (s before : List ℕ) (r : ℕ) (after : List ℕ) : Type 0 where

@@ -20,7 +20,7 @@ use Rattle.rules.specs.Refusals.{OfLog, benchmark_refusals}
 use Rattle.rules.proofs.FirstGround.{then-left}
 use Rattle.rules.proofs.Given.{given_refused, given_answered}
 use Rattle.rules.proofs.KnownRefusals.{AllKnown, known_ground, known_then, known_first}
-use Rattle.judging.proofs.Judging.{Counted, counted}
+use Rattle.judging.proofs.Judging.{Counted, accepted_counts}
 use Rattle.theoretical.specs.Credits.{JudgedSoFar}
 use Rattle.benchmarks.specs.declared.Benchmark.{Benchmark}
 use Rattle.benchmarks.specs.Benchmarks.{benchmark_at, standards_in, time_at, effective_judged, any_zero, any_above, benchmark_ground, ground_at, benchmark_grounds, verdict_with}
@@ -58,8 +58,7 @@ module _ (s b : List ℕ) where
 
   module _ (a : verdict s ≡ Ok tt) where
     pub sized : Counted (length s) (header_of s)
-    unfolding verdict
-    sized = counted s (header_of s) refl (then-left (header_grounds s) (record_grounds (decode s)) a)
+    sized = accepted_counts s a
 
     -- what is lent to the pass over the benchmarks
     pub lent : (h : Header) → h ≡ header_of s → length b ≡ 14 * h.standards → (J : List ℕ) → JudgedSoFar (λ u. u.effective) (up_to (standard_at s h) h.standards) (up_to (unit_at s h) h.units) h.units J → Lent s h b J

@@ -56,7 +56,10 @@ pub fn tell_found<T: Into<[u64; N]>, const N: usize>(
 {
     match answer {
         Ok(Some(t)) => tell_numbers(Ok(t), numbers, refusal),
-        Ok(None) => 1 + tell(Ok(()), refusal),
+        Ok(None) => {
+            tell(Ok(()), refusal);
+            2
+        }
         Err(x) => tell_numbers::<T, N>(Err(x), numbers, refusal),
     }
 }

@@ -18,12 +18,11 @@ use Rattle.std.specs.declared.result.Result.TheVariants.{Ok}
 use Rattle.rules.specs.Grounds.{Verdict, ground, ◌then◌}
 use Rattle.rules.specs.Verdict.{bad_period, bad_modules, bad_counts, bad_length, header_grounds, record_grounds, verdict}
 use Rattle.judging.proofs.Bounds.{good-counts}
-use Rattle.judging.proofs.Judging.{counted}
+use Rattle.judging.proofs.Judging.{accepted_counts}
 use Rattle.rules.proofs.FirstGround.{then-left}
 
 pub longest-log : (s : List ℕ) → verdict s ≡ Ok tt → length s ≤ 63130
-unfolding verdict
-longest-log s a = let n = counted s (header_of s) refl (then-left (header_grounds s) (record_grounds (decode s)) a) in omega (arith, n.whole, n.counts)
+longest-log s a = let n = accepted_counts s a in omega (arith, n.whole, n.counts)
 
 -- what a longer input is answered: its header decides, and else 5
 abbrev by_header : Header → Verdict

@@ -21,7 +21,7 @@ use Rattle.rules.specs.Answers.{answer_of, verdict_of, Given}
 use Rattle.rules.proofs.Given.{own_verdict}
 use Rattle.writing.specs.Writing.{Entry, Added}
 use Rattle.crediting.specs.declared.InForce.{InForce}
-use Rattle.crediting.specs.Calls.{used, StandardInForce}
+use Rattle.crediting.specs.Calls.{in_force_of, StandardInForce}
 use Rattle.listing.specs.Listings.{TextWritten}
 use Rattle.telling.specs.Arrays.{refusal_of, ratios_of, bases_of}
 use Rattle.telling.specs.Told.{answer_or, found_flag, found_or, Told}
@@ -85,7 +85,7 @@ pub found_told : {s : List ℕ} {m recipe time : ℕ} {r : Result (Option InForc
     → MatchResult r (λ o. MatchOption o (flag ≡ 2) (λ f. flag ≡ 1)) (λ x. flag ≡ 0) → refusal ≡ refusal_of (verdict_of r)
     → MatchResult r (λ o. MatchOption o (after ≡ before) (λ f. after ≡ f.index ∷ f.time ∷ [])) (λ x. after ≡ before) → TellsInForce s m recipe time before flag after refusal
 found_told {s} {m} {recipe} {time} g flag before after refusal q why e =
-    let o = used (in_force (decode s).standards m recipe time) in
+    let o = in_force_of (in_force (decode s).standards m recipe time) in
     record {
       flag = flagged (verdict_on s m) o (subst (λ (r : Result (Option InForce) Refusal). MatchResult r (λ o. MatchOption o (flag ≡ 2) (λ f. flag ≡ 1)) (λ x. flag ≡ 0)) g.answer q);
       why = why ∙ ap refusal_of (ap verdict_of g.answer ∙ own_verdict (verdict_on s m) o);

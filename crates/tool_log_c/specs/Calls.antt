@@ -16,9 +16,9 @@ use Rattle.rules.specs.Verdict.{verdict, verdict_on}
 use Rattle.losses.specs.Losses.{losses_of, shares_of, AddsUp}
 use Rattle.answering.specs.Calls.{OnModule}
 use Rattle.rules.specs.Refusals.{OfLog}
-use Rattle.reporting.specs.Reports.{verdict_for_text, verdict_for, ForText, ForRoom}
-use Rattle.crediting.specs.Calls.{AllCredited, used, Uses}
-use Rattle.listing.specs.Listings.{credit_listing, text_written}
+use Rattle.reporting.specs.Reports.{verdict_for_text, verdict_for, ForText, ForRoom, text_written}
+use Rattle.crediting.specs.Calls.{AllCredited, in_force_of, Uses}
+use Rattle.listing.specs.Listings.{credit_listing}
 use Rattle.benchmarks.specs.Benchmarks.{benchmark_at, verdict_with}
 use Rattle.supplemental.specs.Supplemental.{supplemental_of, supplementals_of, AllRounded}
 use Rattle.supplemental.specs.Calls.{WithBenchmarks}
@@ -107,10 +107,10 @@ TellsCreditedListing s before lengthBefore r after told_length refusal = TellsTe
 
 -- index and time of the standard in force for a module, a recipe and a time
 pub record TellsInForce (s : List ℕ) (m recipe time : ℕ) (before : List ℕ) (r : ℕ) (after refusal : List ℕ) : Type 0 where
-  pub flag : r ≡ found_flag (verdict_on s m) (used (in_force (decode s).standards m recipe time))
+  pub flag : r ≡ found_flag (verdict_on s m) (in_force_of (in_force (decode s).standards m recipe time))
   pub why : refusal ≡ refusal_of (verdict_on s m)
-  pub array : after ≡ found_or (λ f. f.index ∷ f.time ∷ []) (verdict_on s m) (used (in_force (decode s).standards m recipe time)) before
-  pub known : Promised (verdict_on s m) (Uses (standard_at s (header_of s)) (header_of s).standards m recipe time (used (in_force (decode s).standards m recipe time))) (OnModule s m)
+  pub array : after ≡ found_or (λ f. f.index ∷ f.time ∷ []) (verdict_on s m) (in_force_of (in_force (decode s).standards m recipe time)) before
+  pub known : Promised (verdict_on s m) (Uses (standard_at s (header_of s)) (header_of s).standards m recipe time (in_force_of (in_force (decode s).standards m recipe time))) (OnModule s m)
 
 -- ---- doubles
 

@@ -7,7 +7,8 @@ use crate::prng::Prng;
 use crate::records::*;
 
 /// Where a log has more about its starts, so many of them are drawn; fewer of a long log, which takes longer to test each time, and of
-/// a refused one, in which none is found.
+/// a refused one, in which none is found. Of one accepted log in so many all are asked.
+const WHOLE: u64 = 100;
 const MOST: usize = 192;
 const MOST_OF_A_LONG_LOG: usize = 48;
 const MOST_OF_A_REFUSED_LOG: usize = 12;
@@ -33,6 +34,7 @@ pub fn make(seed: u64, index: u64, log: &[u8], accepted: bool) -> Vec<Lookup> {
     }
     let most = match log.len() {
         _ if !accepted => MOST_OF_A_REFUSED_LOG,
+        _ if rng.once_in(WHOLE) => usize::MAX,
         LONG_LOG.. => MOST_OF_A_LONG_LOG,
         _ => MOST,
     };
