@@ -66,6 +66,20 @@ def idle():
     return header(86400000, 1, 1, 0, 0) + state(0, 22, 0)
 
 
+def accepted_samples():
+    """The name and the bytes of each sample that is accepted."""
+    samples = []
+    for path in sorted((ROOT / "samples").glob("*.log")):
+        log = path.read_bytes()
+        try:
+            tool_log.examine(log)
+        except Refused:
+            continue
+        samples.append((path.name, log))
+    assert len(samples) >= 8
+    return samples
+
+
 # R1-3: recipes A to D.
 THEORETICAL = (119988, 144000, 180000, 240012)
 EFFECTIVE = (1500, 600, 800, 480)
@@ -483,20 +497,12 @@ class Revisions(Case):
         self.assertEqual(list(revisions.standards(idle())), [])
 
     def test_samples(self):
-        accepted = 0
-        for path in sorted((ROOT / "samples").glob("*.log")):
-            log = path.read_bytes()
-            try:
-                tool_log.examine(log)
-            except Refused:
-                continue
-            with self.subTest(path.name):
+        for name, log in accepted_samples():
+            with self.subTest(name):
                 _, modules, _, listed, units = decoded(log)
                 self.credited_are(log, listed, units)
                 if modules < 4:
                     self.assertEqual(list(revisions.standards(log)), listed)
-            accepted += 1
-        self.assertGreaterEqual(accepted, 8)
 
     def test_most_standards(self):
         # Revisions of one recipe, and recipes of all modules.
@@ -818,17 +824,9 @@ class Writing(Case):
         self.assertEqual(str(refused), "refused: 22 too wide: a value does not fit its field (list units, place 0)")
 
     def test_samples_rewritten(self):
-        accepted = 0
-        for path in sorted((ROOT / "samples").glob("*.log")):
-            log = path.read_bytes()
-            try:
-                tool_log.examine(log)
-            except Refused:
-                continue
-            with self.subTest(path.name):
+        for name, log in accepted_samples():
+            with self.subTest(name):
                 self.assertEqual(write_log(*decoded(log)), log)
-            accepted += 1
-        self.assertGreaterEqual(accepted, 8)
 
 
 if __name__ == "__main__":
