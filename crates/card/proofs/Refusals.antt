@@ -7,7 +7,7 @@ use borrow.Author.Tests.{eqb-true}
 use lib.Dec.{T, ltb, eqb}
 use lib.ListN.{length}
 use Rattle.rules.specs.declared.Refusal.{Refusal}
-use Rattle.rules.specs.Refusals.{Row, is_row, Known, log_refusals, call_refusals, benchmark_refusals}
+use Rattle.rules.specs.Refusals.{Row, is_row, Known, log_refusals, call_refusals, benchmark_refusals, join_refusals}
 use Rattle.rules.specs.Names.{number_of, list_number}
 use Rattle.card.specs.Card.{card, field, word, meaning, look_for, on_card}
 
@@ -44,3 +44,7 @@ call_refusals-worded x k = row-worded call_refusals (number_of x.ground) (list_n
 pub benchmark_refusals-worded : (x : Refusal) → Known benchmark_refusals x → T (worded (number_of x.ground))
 unfolding all_worded worded field card
 benchmark_refusals-worded x k = row-worded benchmark_refusals (number_of x.ground) (list_number x.list) tt k
+
+pub join_refusals-worded : (x : Refusal) → Known join_refusals x → T (worded (number_of x.ground))
+unfolding all_worded worded field card
+join_refusals-worded x k = row-worded join_refusals (number_of x.ground) (list_number x.list) tt k

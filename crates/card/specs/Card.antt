@@ -4,7 +4,7 @@ use Prim.Native.String.{String}
 use Rattle.rules.specs.declared.Ground.{Ground}
 use Rattle.rules.specs.declared.Ground.TheVariants.{Length, StrayModule, NoOpening, TooFast, TooWide}
 use Rattle.rules.specs.declared.LogList.{LogList}
-use Rattle.rules.specs.declared.LogList.TheVariants.{NoList, States, Standards, Units, Benchmarks}
+use Rattle.rules.specs.declared.LogList.TheVariants.{NoList, States, Standards, Units, Benchmarks, Second, SecondStates, SecondStandards, SecondUnits}
 use Rattle.rules.specs.declared.Refusal.{Refusal}
 use Rattle.rules.specs.Names.{number_of}
 use Rattle.report.specs.Text.{ascii}
@@ -19,7 +19,7 @@ unfoldable pub card : List (List ℕ)
 card =
     row "" "" ""
     ++ row "no header" "under 10 bytes" "an empty or broken transfer"
-    ++ row "period" "0 or over 366 days (31,622,400,000 ms)" "the start and end of the export"
+    ++ row "period" "0 or over 366 days (31,622,400,000 ms)" "the start and end of the export; two logs to join that span more"
     ++ row "modules" "0 or over 64" "the tool's configuration"
     ++ row "counts" "over 6,000 state records, 512 standards or 2,000 unit records" "an export over too long a time: cut it"
     ++ row "length" "bytes other than 10 + 6 states + 10 standards + 11 units; benchmarks: 14 for each standard" "a transfer cut off, or bytes behind the log; benchmarks of another log"
@@ -35,11 +35,12 @@ card =
     ++ row "no standard" "none in force for a unit record" "a recipe that ran ahead of its first standard, or at a module that has none for it"
     ++ row "too fast" "a module's actual theoretical time above its production time" "a standard that is too long, or productive time logged as something else"
     ++ row "too great" "a tool sum above 9,007,199,254,740,991 ms" "no log can reach it"
-    ++ row "short buffer" "report or listing longer than the buffer, or a record that does not fit at its position" "lend 2,494 bytes, which hold every report; 7,168 hold every listing, 63,130 every log"
+    ++ row "short buffer" "report, listing or log longer than the buffer, or a record that does not fit at its position" "lend 2,494 bytes, which hold every report; 7,168 hold every listing, 63,130 every log"
     ++ row "unsorted" "out of rising sequence: standards by module, recipe and start, units by time, module and recipe" "sort the list by these fields, ascending; merge unit records that agree in all three"
     ++ row "above standard" "a time of a benchmark above its standard's theoretical time" "benchmarks out of the standards' sequence, or those of another revision"
     ++ row "over-counted" "total effective units of a benchmark above the effective units judged by its standard" "units of another period or revision; scrap or rework of this tool counted as good"
     ++ row "too wide" "a value does not fit its field" "a value in another unit than ms, a number of the controller's own, or a count that ran on"
+    ++ row "unlike tools" "two logs to join whose module counts differ" "logs of two tools, or of one whose modules were changed in between"
 
 -- field j of number n: 0 the word, 1 the meaning, 2 what to look for; empty where the card does not have the number
 unfoldable pub field : ℕ → ℕ → List ℕ
@@ -66,9 +67,9 @@ pub record OnCard (n : ℕ) (w m l : List ℕ) : Type 0 where
 
 -- ---- the row of a number
 
--- 1 to 22
+-- 1 to 23
 abbrev pub on_card : ℕ → Bool
-on_card n = leb 1 n && leb n 22
+on_card n = leb 1 n && leb n 23
 
 -- three lines: number and word, meaning, what to look for
 unfoldable pub row_text : ℕ → List ℕ
@@ -92,8 +93,7 @@ abbrev pub kind : LogList → List ℕ
 kind States = ascii " (a state record)"
 kind Standards = ascii " (a standard)"
 kind Units = ascii " (a unit record)"
-kind NoList = ascii " (a header)"
-kind Benchmarks = ascii " (a header)"
+kind l = ascii " (a header)"
 
 -- the benchmark, or in 5 all of them
 abbrev pub which_benchmark : Ground → ℕ → List ℕ
@@ -107,14 +107,18 @@ is_module NoOpening = true
 is_module TooFast = true
 is_module g = false
 
--- where: the kind of record in 22, the record and its list, the benchmark, or the module
+-- where: the kind of record in 22, the record and its list, the benchmark, the module, or the second of two logs
 abbrev pub place_of : Ground → LogList → ℕ → List ℕ
 place_of TooWide list place = kind list
 place_of g States place = around " (record " place " of the states)"
 place_of g Standards place = around " (record " place " of the standards)"
 place_of g Units place = around " (record " place " of the units)"
 place_of g Benchmarks place = which_benchmark g place
+place_of g SecondStates place = around " (record " place " of the second log's states)"
+place_of g SecondStandards place = around " (record " place " of the second log's standards)"
+place_of g SecondUnits place = around " (record " place " of the second log's units)"
 place_of g NoList place = cond (is_module g) (around " (module " place ")") []
+place_of g Second place = cond (is_module g) (around " (module " place " of the second log)") (ascii " (the second log)")
 
 abbrev pub whereabouts : Refusal → List ℕ
 whereabouts x = place_of x.ground x.list x.place

@@ -31,7 +31,7 @@ fn row_of(ground: Ground) -> Row
         Ground::Period => Row {
             word: b"period",
             meaning: b"0 or over 366 days (31,622,400,000 ms)",
-            look_for: b"the start and end of the export",
+            look_for: b"the start and end of the export; two logs to join that span more",
         },
         Ground::Modules => Row {
             word: b"modules",
@@ -110,7 +110,7 @@ fn row_of(ground: Ground) -> Row
         },
         Ground::ShortBuffer => Row {
             word: b"short buffer",
-            meaning: b"report or listing longer than the buffer, or a record that does not fit at its position",
+            meaning: b"report, listing or log longer than the buffer, or a record that does not fit at its position",
             look_for: b"lend 2,494 bytes, which hold every report; 7,168 hold every listing, 63,130 every log",
         },
         Ground::Unsorted => Row {
@@ -132,6 +132,11 @@ fn row_of(ground: Ground) -> Row
             word: b"too wide",
             meaning: b"a value does not fit its field",
             look_for: b"a value in another unit than ms, a number of the controller's own, or a count that ran on",
+        },
+        Ground::UnlikeTools => Row {
+            word: b"unlike tools",
+            meaning: b"two logs to join whose module counts differ",
+            look_for: b"logs of two tools, or of one whose modules were changed in between",
         },
     }
 }
@@ -163,6 +168,7 @@ fn ground_of(number: usize) -> Option<Ground>
         20 => Some(Ground::AboveStandard),
         21 => Some(Ground::OverCounted),
         22 => Some(Ground::TooWide),
+        23 => Some(Ground::UnlikeTools),
         _ => None,
     }
 }
@@ -208,7 +214,7 @@ fn kind(list: LogList) -> &'static [u8]
         LogList::States => b" (a state record)",
         LogList::Standards => b" (a standard)",
         LogList::Units => b" (a unit record)",
-        LogList::NoList | LogList::Benchmarks => b" (a header)",
+        _ => b" (a header)",
     }
 }
 
@@ -232,11 +238,11 @@ fn is_module(ground: Ground) -> bool
     )
 }
 
-// Where a refusal points to: the kind of record, the record and its list, the benchmark, or the module. The caller owes the room.
+// Where a refusal points to: the kind of record, the record and its list, the benchmark, the module, or the second of two logs. The caller owes the room.
 fn put_whereabouts(buf: &mut [u8], at: usize, x: Refusal) -> usize
-    requires { at + 50 ≤ length buf.old }
+    requires { at + 60 ≤ length buf.old }
     ensures put { Put (whereabouts x) buf.old at result buf.new }
-    ensures upper_bound { result ≤ at + 50 }
+    ensures upper_bound { result ≤ at + 60 }
 {
     if x.ground == Ground::TooWide {
         return filling::put_text(buf, at, kind(x.list));
@@ -248,6 +254,9 @@ fn put_whereabouts(buf: &mut [u8], at: usize, x: Refusal) -> usize
         (LogList::Units, _) => put_around(buf, at, b" (record ", place, b" of the units)"),
         (LogList::Benchmarks, Ground::Length) => filling::put_text(buf, at, b" (the benchmarks)"),
         (LogList::Benchmarks, _) => put_around(buf, at, b" (benchmark ", place, b")"),
+        (LogList::SecondStates, _) => put_around(buf, at, b" (record ", place, b" of the second log's states)"),
+        (LogList::SecondStandards, _) => put_around(buf, at, b" (record ", place, b" of the second log's standards)"),
+        (LogList::SecondUnits, _) => put_around(buf, at, b" (record ", place, b" of the second log's units)"),
         (LogList::NoList, ground) if is_module(ground) => put_around(
             buf,
             at,
@@ -256,6 +265,14 @@ fn put_whereabouts(buf: &mut [u8], at: usize, x: Refusal) -> usize
             b")",
         ),
         (LogList::NoList, _) => at,
+        (LogList::Second, ground) if is_module(ground) => put_around(
+            buf,
+            at,
+            b" (module ",
+            place,
+            b" of the second log)",
+        ),
+        (LogList::Second, _) => filling::put_text(buf, at, b" (the second log)"),
     }
 }
 

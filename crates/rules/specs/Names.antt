@@ -2,9 +2,9 @@
 -- Definitions only.
 use Rattle.std.specs.Prelude.{ℕ}
 use Rattle.rules.specs.declared.Ground.{Ground}
-use Rattle.rules.specs.declared.Ground.TheVariants.{NoHeader, Period, Modules, Counts, Length, Spare, StrayModule, StrayCode, Outside, Sequence, NoOpening, NoTime, Twice, OverGood, NoStandard, TooFast, TooGreat, ShortBuffer, Unsorted, AboveStandard, OverCounted, TooWide}
+use Rattle.rules.specs.declared.Ground.TheVariants.{NoHeader, Period, Modules, Counts, Length, Spare, StrayModule, StrayCode, Outside, Sequence, NoOpening, NoTime, Twice, OverGood, NoStandard, TooFast, TooGreat, ShortBuffer, Unsorted, AboveStandard, OverCounted, TooWide, UnlikeTools}
 use Rattle.rules.specs.declared.LogList.{LogList}
-use Rattle.rules.specs.declared.LogList.TheVariants.{NoList, States, Standards, Units, Benchmarks}
+use Rattle.rules.specs.declared.LogList.TheVariants.{NoList, States, Standards, Units, Benchmarks, Second, SecondStates, SecondStandards, SecondUnits}
 
 -- the states: a module's six totals stand in this sequence
 abbrev pub productive : ℕ
@@ -49,11 +49,24 @@ number_of Unsorted = 19
 number_of AboveStandard = 20
 number_of OverCounted = 21
 number_of TooWide = 22
+number_of UnlikeTools = 23
 
--- the number of a list, as a refusal tells it; the last one is not of a log, but lent beside it
+-- the number of a list, as a refusal tells it; 4 is not of a log, but lent beside it, and 10 to 13 are of the second of two logs
 abbrev pub list_number : LogList → ℕ
 list_number NoList = 0
 list_number States = 1
 list_number Standards = 2
 list_number Units = 3
 list_number Benchmarks = 4
+list_number Second = 10
+list_number SecondStates = 11
+list_number SecondStandards = 12
+list_number SecondUnits = 13
+
+-- the same list of the second of two logs: for none and for the three lists of a log, the one with the number plus 10
+abbrev pub list_of_second : LogList → LogList
+list_of_second NoList = Second
+list_of_second States = SecondStates
+list_of_second Standards = SecondStandards
+list_of_second Units = SecondUnits
+list_of_second l = l

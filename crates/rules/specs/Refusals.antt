@@ -1,11 +1,11 @@
--- The tables of refusals, document 01's with R-1's 19, R-2's 22 and those of R-4: which list comes with which number.
+-- The tables of refusals, document 01's with R-1's 19, R-2's 22, those of R-4 and of R-8: which list comes with which number.
 -- Definitions only.
-use Rattle.std.specs.Prelude.{ℕ, Bool, false, ◌&&◌, ◌||◌, List, [], ◌∷◌, T, eqb, ◌≡◌}
+use Rattle.std.specs.Prelude.{ℕ, ◌+◌, Bool, false, ◌&&◌, ◌||◌, List, [], ◌∷◌, ◌++◌, T, eqb, ◌≡◌}
 use Rattle.rules.specs.declared.Ground.{Ground}
 use Rattle.rules.specs.declared.LogList.{LogList}
 use Rattle.rules.specs.declared.Refusal.{Refusal}
 use Rattle.std.specs.declared.result.Result.TheVariants.{Err}
-use Rattle.rules.specs.declared.Ground.TheVariants.{NoHeader, Period, Modules, Counts, Length, Spare, StrayModule, StrayCode, Outside, Sequence, NoOpening, NoTime, Twice, OverGood, NoStandard, TooFast, TooGreat, ShortBuffer, Unsorted, AboveStandard, OverCounted, TooWide}
+use Rattle.rules.specs.declared.Ground.TheVariants.{NoHeader, Period, Modules, Counts, Length, Spare, StrayModule, StrayCode, Outside, Sequence, NoOpening, NoTime, Twice, OverGood, NoStandard, TooFast, TooGreat, ShortBuffer, Unsorted, AboveStandard, OverCounted, TooWide, UnlikeTools}
 use Rattle.rules.specs.declared.LogList.TheVariants.{NoList, States, Standards, Units, Benchmarks}
 use Rattle.rules.specs.Names.{number_of, list_number}
 use Rattle.rules.specs.Verdict.{verdict}
@@ -33,6 +33,15 @@ call_refusals = row StrayModule NoList ∷ row ShortBuffer NoList ∷ row TooWid
 -- those of benchmarks
 abbrev pub benchmark_refusals : List Row
 benchmark_refusals = row Length Benchmarks ∷ row Spare Benchmarks ∷ row NoTime Benchmarks ∷ row AboveStandard Benchmarks ∷ row OverCounted Benchmarks ∷ []
+
+-- those of the second of two logs: the same numbers, each list plus 10
+abbrev pub of_second : List Row → List Row
+of_second [] = []
+of_second (r ∷ rs) = record { number = r.number; list = r.list + 10 } ∷ of_second rs
+
+-- those of a join: the first log's, the second's, and its own
+abbrev pub join_refusals : List Row
+join_refusals = log_refusals ++ (of_second log_refusals ++ (row UnlikeTools NoList ∷ row ShortBuffer NoList ∷ []))
 
 abbrev pub is_row : List Row → ℕ → ℕ → Bool
 is_row [] n l = false

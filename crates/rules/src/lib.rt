@@ -3,7 +3,7 @@
 
 ghost use Rattle.std.specs.Prelude.{◌≡◌};
 ghost use Rattle.rules.specs.Grounds.{ground};
-ghost use Rattle.rules.specs.Names.{number_of, list_number};
+ghost use Rattle.rules.specs.Names.{number_of, list_number, list_of_second};
 ghost use Rattle.rules.specs.Quantities.{times_of};
 ghost use Rattle.rules.specs.Refusals.{three_of};
 
@@ -41,9 +41,10 @@ pub enum Ground {
     AboveStandard,
     OverCounted,
     TooWide,
+    UnlikeTools,
 }
 
-// The list that a refusal points to: of the log, or the benchmarks lent beside it.
+// The list that a refusal points to: of the log, the benchmarks lent beside it, or the second of two logs, none of its lists or one of them.
 #[derive(Clone, Copy, PartialEq, Eq)]
 pub enum LogList {
     NoList,
@@ -51,6 +52,10 @@ pub enum LogList {
     Standards,
     Units,
     Benchmarks,
+    Second,
+    SecondStates,
+    SecondStandards,
+    SecondUnits,
 }
 
 // place: the record's or the benchmark's index from 0, or a module.
@@ -100,6 +105,7 @@ impl Ground {
             Ground::AboveStandard => 20,
             Ground::OverCounted => 21,
             Ground::TooWide => 22,
+            Ground::UnlikeTools => 23,
         }
     }
 
@@ -129,6 +135,23 @@ impl LogList {
             LogList::Standards => 2,
             LogList::Units => 3,
             LogList::Benchmarks => 4,
+            LogList::Second => 10,
+            LogList::SecondStates => 11,
+            LogList::SecondStandards => 12,
+            LogList::SecondUnits => 13,
+        }
+    }
+
+    // The same list of the second of two logs; what is no list of a log stays.
+    pub fn of_second(self) -> LogList
+        ensures { result ≡ list_of_second self }
+    {
+        match self {
+            LogList::NoList => LogList::Second,
+            LogList::States => LogList::SecondStates,
+            LogList::Standards => LogList::SecondStandards,
+            LogList::Units => LogList::SecondUnits,
+            other => other,
         }
     }
 }
