@@ -2,29 +2,29 @@
 -- make the units of the log, and times their standards' times the theoretical time of all modules.
 -- Assumes nothing.
 use mathlib.Core.Path.{◌≡◌, refl, sym, ap, ap₂, ◌∙◌}
-use mathlib.Core.Bool.{cond, true, false, not}
+use mathlib.Core.Bool.{cond, true, false}
 use mathlib.Core.Option.{Option, none, some}
-use mathlib.Core.List.{List, [], ◌∷◌, ◌++◌}
+use mathlib.Core.List.{List, [], ◌∷◌}
 use Prim.Native.Nat.{ℕ, zero, suc, ◌+◌, ◌*◌, ◌≤◌, ◌<◌}
 use native.Mathlib.Nat.{add-zero, zero-add, zero-mul, add-mul}
 use native.Mathlib.Decide.{ℕ_discrete}
 use native.Mathlib.Omega.{arith}
-use lib.Dec.{leb, ltb, eqb}
-use borrow.Author.Tests.{eq-eqb, eqb-true, ne_eqb, leb-false}
+use lib.Dec.{eqb}
+use borrow.Author.Tests.{eq-eqb, eqb-true, ne_eqb}
 use Rattle.records.specs.declared.Standard.{Standard}
 use Rattle.records.specs.declared.UnitRecord.{UnitRecord}
 use Rattle.records.specs.Log.{up_to}
 use Rattle.rules.specs.declared.Placed.{Placed}
 use Rattle.std.specs.declared.result.Result.TheVariants.{Ok}
-use Rattle.rules.specs.declared.Ground.TheVariants.{Spare, StrayModule, Outside, OverGood, NoStandard}
-use Rattle.rules.specs.declared.LogList.TheVariants.{Units}
-use Rattle.rules.specs.Grounds.{ground, in_turn}
 use Rattle.rules.specs.Theoretical.{in_force, For, Answers, time_of, credit, theoretical_time, is_at, judged_by, units_judged}
 use Rattle.rules.specs.Credited.{units_of}
 use Rattle.rules.specs.Quantities.{sum_below}
 use Rattle.rules.specs.RecordGrounds.{is_none, unit_ground, unit_grounds}
 use Rattle.rules.proofs.Booleans.{false-true}
-use Rattle.rules.proofs.FirstGround.{then-left, then-right, not-met}
+use Rattle.rules.specs.Lists.{Each}
+use Rattle.rules.specs.Sequence.{unit_key}
+use Rattle.rules.specs.Sound.{UnitSound}
+use Rattle.rules.proofs.Sound.{list-local, unit-tests}
 use Rattle.rules.proofs.InForce.{in_force_lem}
 use Rattle.rules.proofs.SumLaws.{sum_same, sum-add, sum-each}
 
@@ -48,35 +48,12 @@ module _ (a k : ℕ) where
         | no ne ↦ rw (ne_eqb k n ne, add-zero (sum_below at_place n)) (once n (omega (arith, ne)))
       ]
 
--- ---- the tests of unit records leave a module of the tool and a standard in force
+-- ---- accepted unit records
 
-module _ (modules : ℕ) (ss : List Standard) where
-  abbrev pub Passed : List UnitRecord → Type 0
-  Passed [] = Unit {0}
-  Passed (u ∷ us) = (u.«module» < modules) × (is_none (in_force ss u.«module» u.recipe u.time) ≡ false) × Passed us
-
-  passed-one : (period i : ℕ) (earlier : List UnitRecord) (u : UnitRecord) → unit_ground period modules ss earlier i u ≡ Ok tt
-      → (u.«module» < modules) × (is_none (in_force ss u.«module» u.recipe u.time) ≡ false)
-  unfolding unit_ground
-  passed-one period i earlier u e =
-      let stray = leb modules u.«module» in
-      let nothing = is_none (in_force ss u.«module» u.recipe u.time) in
-      let e7 = then-right (ground Spare Units i (not (eqb u.spare 0))) _ e in
-      let e9 = then-right (ground StrayModule Units i stray) _ e7 in
-      let e14 = then-right (ground Outside Units i (leb period u.time)) _ e9 in
-      let e15 = then-right (ground OverGood Units i (ltb u.actual u.effective)) _ e14 in
-      (leb-false modules u.«module» (not-met StrayModule Units i stray (then-left (ground StrayModule Units i stray) _ e7)), not-met NoStandard Units i nothing (then-left (ground NoStandard Units i nothing) _ e15))
-
-  passed-turn : (period i : ℕ) (earlier us : List UnitRecord) → in_turn (unit_ground period modules ss) earlier i us ≡ Ok tt → Passed us
-  unfolding in_turn
-  passed-turn period i earlier [] e = tt
-  passed-turn period i earlier (u ∷ us) e =
-      let p = passed-one period i earlier u (then-left (unit_ground period modules ss earlier i u) _ e) in
-      (p.0, p.1, passed-turn period (suc i) (earlier ++ (u ∷ [])) us (then-right (unit_ground period modules ss earlier i u) _ e))
-
-  pub passed : (period : ℕ) (us : List UnitRecord) → unit_grounds period modules ss us ≡ Ok tt → Passed us
-  unfolding unit_grounds
-  passed period us e = passed-turn period 0 [] us e
+-- each is of a module of the tool, and a standard is in force for it
+pub unit_records-sound : (period modules : ℕ) (ss : List Standard) (us : List UnitRecord) → unit_grounds period modules ss us ≡ Ok tt → Each (UnitSound period modules ss) us
+unfolding unit_grounds
+unit_records-sound period modules ss us e = list-local unit_key (unit_ground period modules ss) (UnitSound period modules ss) (unit-tests period modules ss) us e
 
 -- ---- one unit record
 
@@ -118,36 +95,36 @@ module _ (at : ℕ → Standard) (n : ℕ) where
   none_judged units (u ∷ us) i h =
       rw (judge-listed u.«module» u.recipe u.time i (units u) (in_force listed u.«module» u.recipe u.time) (in_force_lem at u.«module» u.recipe u.time n) h) (zero-add (units_judged units listed us i) ∙ none_judged units us i h)
 
-  module _ (modules : ℕ) (units : UnitRecord → ℕ) where
+  module _ (period modules : ℕ) (units : UnitRecord → ℕ) where
     -- the judged units of all standards make the units of all unit records
-    pub all_judged : (us : List UnitRecord) → Passed modules listed us → sum_below (units_judged units listed us) n ≡ units_of units us
+    pub all_judged : (us : List UnitRecord) → Each (UnitSound period modules listed) us → sum_below (units_judged units listed us) n ≡ units_of units us
     unfolding units_judged judged_by units_of
     all_judged [] p = sum-each 0 n ∙ zero-mul n
     all_judged (u ∷ us) p =
         sym (sum-add _ (units_judged units listed us) n)
-        ∙ ap₂ ◌+◌ (one_judge u.«module» u.recipe u.time (units u) (in_force listed u.«module» u.recipe u.time) (in_force_lem at u.«module» u.recipe u.time n) p.1) (all_judged us p.2)
+        ∙ ap₂ ◌+◌ (one_judge u.«module» u.recipe u.time (units u) (in_force listed u.«module» u.recipe u.time) (in_force_lem at u.«module» u.recipe u.time n) p.0.judged) (all_judged us p.1)
 
     -- units times the time in force, over all unit records
     unfoldable whole : List UnitRecord → ℕ
     whole [] = 0
     whole (u ∷ us) = units u * time_of (in_force listed u.«module» u.recipe u.time) + whole us
 
-    over-standards : (us : List UnitRecord) → Passed modules listed us → sum_below (λ i. units_judged units listed us i * (at i).theoretical) n ≡ whole us
+    over-standards : (us : List UnitRecord) → Each (UnitSound period modules listed) us → sum_below (λ i. units_judged units listed us i * (at i).theoretical) n ≡ whole us
     unfolding units_judged judged_by whole
     over-standards [] p = sum_same _ (λ i. 0) n (λ i l. zero-mul (at i).theoretical) ∙ sum-each 0 n ∙ zero-mul n
     over-standards (u ∷ us) p =
         sum_same _ _ n (λ i l. add-mul _ (units_judged units listed us i) (at i).theoretical)
         ∙ sym (sum-add _ (λ i. units_judged units listed us i * (at i).theoretical) n)
-        ∙ ap₂ ◌+◌ (one_time u.«module» u.recipe u.time (units u) (in_force listed u.«module» u.recipe u.time) (in_force_lem at u.«module» u.recipe u.time n) p.1) (over-standards us p.2)
+        ∙ ap₂ ◌+◌ (one_time u.«module» u.recipe u.time (units u) (in_force listed u.«module» u.recipe u.time) (in_force_lem at u.«module» u.recipe u.time n) p.0.judged) (over-standards us p.1)
 
-    over-modules : (us : List UnitRecord) → Passed modules listed us → sum_below (theoretical_time units listed us) modules ≡ whole us
+    over-modules : (us : List UnitRecord) → Each (UnitSound period modules listed) us → sum_below (theoretical_time units listed us) modules ≡ whole us
     unfolding theoretical_time credit whole
     over-modules [] p = sum-each 0 modules ∙ zero-mul modules
     over-modules (u ∷ us) p =
         sym (sum-add _ (theoretical_time units listed us) modules)
-        ∙ ap₂ ◌+◌ (once (units u * time_of (in_force listed u.«module» u.recipe u.time)) u.«module» modules p.0) (over-modules us p.2)
+        ∙ ap₂ ◌+◌ (once (units u * time_of (in_force listed u.«module» u.recipe u.time)) u.«module» modules p.0.own) (over-modules us p.1)
 
     -- judged units times their standards' times make the theoretical time of all modules
-    pub judged_time_lem : (us : List UnitRecord) → Passed modules listed us
+    pub judged_time_lem : (us : List UnitRecord) → Each (UnitSound period modules listed) us
         → sum_below (λ i. units_judged units listed us i * (at i).theoretical) n ≡ sum_below (theoretical_time units listed us) modules
     judged_time_lem us p = over-standards us p ∙ sym (over-modules us p)

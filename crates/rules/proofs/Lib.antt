@@ -13,3 +13,5 @@ pub mod Given
 pub mod SumLaws
 pub mod Judged
 pub mod OwnStandards
+pub mod Each
+pub mod Sound

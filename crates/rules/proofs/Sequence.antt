@@ -19,6 +19,7 @@ use Rattle.records.specs.declared.StateRecord.{StateRecord}
 use Rattle.records.specs.declared.Standard.{Standard}
 use Rattle.rules.specs.Theoretical.{For}
 use Rattle.rules.specs.Sequence.{is_below, just_before, is_after, is_rising_after, is_rising, state_key, standard_key}
+use Rattle.rules.specs.Lists.{Each}
 use Rattle.rules.proofs.Booleans.{false-true, both, either, or-true, and-true, and_assoc}
 
 -- ---- keys
@@ -108,8 +109,7 @@ start-above b s e h =
 module _ {A : Type 0} (key : A → List ℕ) where
   -- each key of a list is above k
   abbrev pub AllAbove : List ℕ → List A → Type 0
-  AllAbove k [] = Unit {0}
-  AllAbove k (r ∷ rs) = (is_below k (key r) ≡ true) × AllAbove k rs
+  AllAbove k rs = Each (λ r. is_below k (key r) ≡ true) rs
 
   all_above : (j k : List ℕ) (rs : List A) → is_below j k ≡ true → AllAbove k rs → AllAbove j rs
   all_above j k [] h a = tt
@@ -132,8 +132,7 @@ module _ {A : Type 0} (key : A → List ℕ) where
 
   -- each key of a list is below k
   abbrev pub AllBelow : List ℕ → List A → Type 0
-  AllBelow k [] = Unit {0}
-  AllBelow k (r ∷ rs) = (is_below (key r) k ≡ true) × AllBelow k rs
+  AllBelow k rs = Each (λ r. is_below (key r) k ≡ true) rs
 
   -- a record after the last of a rising list is above each of it
   all-below : (before : Option A) (rs : List A) (r : A) → is_rising_after key before rs ≡ true → is_after key (foldl (λ l q. some q) before rs) r ≡ true → AllBelow (key r) rs

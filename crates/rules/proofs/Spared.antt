@@ -18,7 +18,7 @@ use Rattle.rules.proofs.Booleans.{both}
 use Rattle.rules.proofs.InForce.{for_true}
 use Rattle.rules.proofs.Sequence.{AllBelow, rising_below, time-above, start-above}
 
-own-later : (r : StateRecord) (found : Option ℕ) (rs : List StateRecord) → is_not_after r.time found ≡ false → AllBelow state_key (state_key r) rs
+pub own-later : (r : StateRecord) (found : Option ℕ) (rs : List StateRecord) → is_not_after r.time found ≡ false → AllBelow state_key (state_key r) rs
     → is_not_after r.time (foldl (λ t q. cond (eqb q.«module» r.«module») (some q.time) t) found rs) ≡ false
 own-later r found [] h b = h
 own-later r found (q ∷ rs) h b = step (eqb q.«module» r.«module») refl (λ next k. own-later r next rs k b.1)
@@ -34,7 +34,7 @@ pub later-than-own : (earlier : List StateRecord) (r : StateRecord) → is_risin
 unfolding own_time
 later-than-own earlier r e h = own-later r none earlier refl (rising_below state_key earlier r e h)
 
-none-among : (s : Standard) (es : List Standard) → AllBelow standard_key (standard_key s) es → is_among s es ≡ false
+pub none-among : (s : Standard) (es : List Standard) → AllBelow standard_key (standard_key s) es → is_among s es ≡ false
 none-among s [] b = refl
 none-among s (e ∷ es) b = step (is_for s.«module» s.recipe e && eqb e.start s.start) refl (none-among s es b.1)
   where

@@ -12,3 +12,5 @@ pub mod Verdict
 pub mod Refusals
 pub mod SameRecords
 pub mod Answers
+pub mod Lists
+pub mod Sound

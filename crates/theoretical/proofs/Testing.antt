@@ -17,6 +17,7 @@ use Rattle.rules.specs.Grounds.{Verdict, ground, ◌then◌}
 use Rattle.rules.specs.Keys.{standard_number, StandardFits, StandardsSequenced}
 use Rattle.rules.specs.RecordGrounds.{is_among, standard_ground}
 use Rattle.rules.proofs.FirstGround.{then-left, not-met}
+use Rattle.rules.proofs.Sound.{standard-tests}
 use Rattle.rules.proofs.Spared.{not-among}
 
 -- the widths of a standard's module, recipe and start
@@ -25,10 +26,7 @@ fits s h i = let f = standard-fits s (80 + 48 * h.states + 80 * i) in (f.0, f.1.
 
 -- a standard that passes has no spare bit
 pub passed-plain : (period modules : ℕ) (earlier : List Standard) (i : ℕ) (s : Standard) → standard_ground period modules earlier i s ≡ Ok tt → s.spare ≡ 0
-unfolding standard_ground
-passed-plain period modules earlier i s e =
-    let set = not (eqb s.spare 0) in
-    eqb-true s.spare 0 (not-false (eqb s.spare 0) (not-met Spare Standards i set (then-left (ground Spare Standards i set) _ e)))
+passed-plain period modules earlier i s e = ((standard-tests period modules).local earlier i s e).unspared
 
 -- tested by its number: one above those before it is none of them
 module _ (period modules : ℕ) (earlier : List Standard) (i before : ℕ) (s : Standard) where

@@ -15,7 +15,8 @@ use Rattle.records.specs.Encode.{state_slots, standard_slots, unit_slots, unit_b
 use Rattle.records.proofs.RoundTrip.{decode-encode}
 use Rattle.rules.specs.Verdict.{verdict}
 use Rattle.writing.specs.Writing.{Entry, entry_bytes, finish_verdict}
-use Rattle.writing.specs.Runs.{Run, run, finished, finishing, of_state, of_standard, of_unit, entries_of, Each, NoSpare, Kept, FinishedSays}
+use Rattle.rules.specs.Lists.{Each}
+use Rattle.writing.specs.Runs.{Run, run, finished, finishing, of_state, of_standard, of_unit, entries_of, NoSpare, Kept, FinishedSays}
 use Rattle.writing.proofs.Kept.{run-kept}
 
 -- ---- the records of one list

@@ -1,0 +1,4 @@
+pub mod NotTooGreat
+pub mod Codes
+pub mod Force
+pub mod Encoded
