@@ -14,7 +14,8 @@ use Rattle.rules.specs.Time.{count}
 use Rattle.rules.specs.Quantities.{sum_below, actual_time, effective_time, of_tool}
 use Rattle.rules.specs.Verdict.{verdict}
 use Rattle.losses.specs.Losses.{losses_of}
-use Rattle.reporting.specs.Reports.{report_text, verdict_for_text, verdict_for, written_by, text_written, written_part}
+use Rattle.rules.specs.Answers.{written_by}
+use Rattle.reporting.specs.Reports.{report_text, verdict_for_text, verdict_for, text_written, written_part}
 use Rattle.edges.specs.CaseW.{case_w, case_w_log, case_w_report, CaseW}
 use Rattle.edges.proofs.ByStretches.{verdict_by, verdict_by-stretches, report_by, report_by-stretches, tool_by-stretches}
 

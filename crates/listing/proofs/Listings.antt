@@ -1,7 +1,7 @@
 -- A text about a log in a lent buffer: refused with the log, refused for the room, or written. And the listing of an accepted log's credited units.
 -- Assumes nothing.
 use mathlib.Core.Path.{◌≡◌, refl, ap, ◌∙◌}
-use mathlib.Core.List.{List, []}
+use mathlib.Core.List.{List}
 use Prim.Native.Nat.{ℕ, ◌+◌, ◌*◌, ◌≤◌, ◌<◌}
 use native.Mathlib.Nat.{zero-add}
 use native.Mathlib.Omega.{arith}
@@ -14,10 +14,10 @@ use Rattle.records.proofs.Widths.{unit-fits}
 use Rattle.rules.specs.declared.Refusal.{Refusal}
 use Rattle.rules.specs.declared.Ground.TheVariants.{ShortBuffer}
 use Rattle.rules.specs.declared.LogList.TheVariants.{NoList}
-use Rattle.rules.specs.Grounds.{Verdict, ground}
+use Rattle.rules.specs.Grounds.{ground}
 use Rattle.rules.specs.Credited.{credited_to, credits_of}
 use Rattle.rules.specs.Verdict.{verdict}
-use Rattle.rules.proofs.Given.{never, given_refused, given_answered}
+use Rattle.rules.proofs.Given.{front_refused, front_put}
 use Rattle.rules.proofs.KnownRefusals.{log-refusal}
 use Rattle.filling.specs.Buffer.{Put}
 use Rattle.filling.proofs.Written.{written-front}
@@ -25,7 +25,7 @@ use Rattle.report.specs.Report.{joined}
 use Rattle.report.proofs.Tables.{joined_same}
 use Rattle.theoretical.proofs.Counting.{judged_low}
 use Rattle.judging.proofs.Judging.{accepted_counts}
-use Rattle.reporting.specs.Reports.{verdict_for_text, ForText, of_log, written_by, text_written}
+use Rattle.reporting.specs.Reports.{verdict_for_text, ForText, of_log}
 use Rattle.reporting.proofs.Reporting.{room_refused, for-room, room_enough, refused_short}
 use Rattle.listing.specs.Listings.{credit_line, credit_listing, TextWritten}
 
@@ -37,14 +37,7 @@ module _ (text : Log → List ℕ) (most : ℕ) (s b : List ℕ) where
 
   -- nothing is written
   refused : (x : Refusal) → verdict_for_text text s (length b) ≡ Err x → ForText text s (length b) x → TextWritten text most s b (Err x) b
-  unfolding text_written
-  refused x e for =
-      let part : text_written text s (length b) ≡ [] = ap (λ (w : Verdict). written_by w (text (decode s))) e in
-      record {
-        given = given_refused (verdict_for_text text s (length b)) size (λ n. (n ≤ length b) × (n ≤ most)) (ForText text s (length b)) x e for;
-        bytes = rw part;
-        unchanged = λ y q. refl;
-      }
+  refused x e for = front_refused _ _ _ _ b x e for
 
   pub text_refused : (x : Refusal) → verdict s ≡ Err x → TextWritten text most s b (Err x) b
   text_refused x e = refused x (room_refused text s (length b) x e) (of_log (log-refusal s x e))
@@ -54,16 +47,7 @@ module _ (text : Log → List ℕ) (most : ℕ) (s b : List ℕ) where
     text_short x f = refused x (for-room text s (length b) e ∙ f) (refused_short text s (length b) e x f)
 
     pub text_put : size ≤ length b → size ≤ most → (r : ℕ) (a : List ℕ) → Put (text (decode s)) b 0 r a → TextWritten text most s b (Ok r) a
-    unfolding text_written
-    text_put fits few r a p =
-        let accepts = room_enough text s (length b) e fits in
-        let part : text_written text s (length b) ≡ text (decode s) = ap (λ (w : Verdict). written_by w (text (decode s))) accepts in
-        let long : r ≡ size = p.next ∙ zero-add size in
-        record {
-          given = given_answered (verdict_for_text text s (length b)) size (λ n. (n ≤ length b) × (n ≤ most)) (ForText text s (length b)) r accepts long (fits, few);
-          bytes = rw part (p.bytes ∙ written-front b (text (decode s)));
-          unchanged = λ y q. absurd (never r y q);
-        }
+    text_put fits few r a p = front_put _ _ _ _ b (room_enough text s (length b) e fits) r (p.next ∙ zero-add size) (fits, few) a (p.bytes ∙ written-front b (text (decode s)))
 
 -- ---- the listing of credited units
 

@@ -26,7 +26,8 @@ use Rattle.report.proofs.Lengths.{heading-length, length-report}
 use Rattle.report.proofs.Tables.{table_length}
 use Rattle.filling.proofs.Written.{written-front, at_front, front-more}
 use Rattle.judging.specs.Working.{Consistent}
-use Rattle.reporting.specs.Reports.{printed_by, printed, Prints, report_text, verdict_for_text, verdict_for, ForText, of_log, short, Examined, written_by, text_written, written_part, Written}
+use Rattle.rules.specs.Answers.{written_by}
+use Rattle.reporting.specs.Reports.{printed_by, printed, Prints, report_text, verdict_for_text, verdict_for, ForText, of_log, short, Examined, text_written, written_part, Written}
 use Rattle.rules.proofs.KnownRefusals.{log-refusal}
 
 -- ---- the length of a report

@@ -1,6 +1,6 @@
 -- The report on a log, the verdict for a buffer of a length, what the report calls leave in the buffer, and what a program prints of a log.
 -- Definitions only.
-use Rattle.std.specs.Prelude.{◌≡◌, List, [], ◌++◌, ◌↔◌, ℕ, ◌≤◌, ◌<◌, ltb, length, drop}
+use Rattle.std.specs.Prelude.{◌≡◌, List, ◌++◌, ◌↔◌, ℕ, ◌≤◌, ◌<◌, ltb, length, drop}
 use Rattle.records.specs.Log.{Log, decode}
 use Rattle.rules.specs.declared.Refusal.{Refusal}
 use Rattle.rules.specs.declared.Ground.TheVariants.{ShortBuffer}
@@ -8,6 +8,7 @@ use Rattle.rules.specs.declared.LogList.TheVariants.{NoList}
 use Rattle.rules.specs.Grounds.{Verdict, refusal}
 use Rattle.std.specs.declared.result.Result.TheVariants.{Ok, Err}
 use Rattle.rules.specs.Grounds.{ground, ◌then◌}
+use Rattle.rules.specs.Answers.{written_by}
 use Rattle.rules.specs.Quantities.{of_module, of_tool}
 use Rattle.rules.specs.Verdict.{verdict}
 use Rattle.rules.specs.Refusals.{OfLog}
@@ -39,11 +40,7 @@ pub record Examined (s : List ℕ) (room : ℕ) (r : Verdict) : Type 0 where
   pub answer : r ≡ verdict_for s room
   pub refusal : (x : Refusal) → r ≡ Err x → ForRoom s room x
 
--- what is written: the text where the verdict accepts, and nothing where it refuses
-abbrev pub written_by : Verdict → List ℕ → List ℕ
-written_by (Ok tt) text = text
-written_by (Err x) text = []
-
+-- what is written of it
 unfoldable pub text_written : (Log → List ℕ) → List ℕ → ℕ → List ℕ
 unfolding verdict_for_text decode
 text_written text s room = written_by (verdict_for_text text s room) (text (decode s))

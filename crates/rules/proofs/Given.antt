@@ -1,13 +1,15 @@
 -- A call's answer from its verdict and its value.
 -- Assumes nothing.
 use mathlib.Core.Path.{◌≡◌, refl, sym, ap, ◌∙◌, subst}
+use mathlib.Core.List.{List, [], ◌++◌}
 use Prim.Native.Nat.{ℕ}
+use lib.ListN.{length, drop}
 use native.Mathlib.Omega.{arith}
 use Rattle.std.specs.declared.result.Result.{Result}
 use Rattle.std.specs.declared.result.Result.TheVariants.{Ok, Err}
 use Rattle.rules.specs.declared.Refusal.{Refusal}
 use Rattle.rules.specs.Grounds.{Verdict}
-use Rattle.rules.specs.Answers.{answer_of, verdict_of, Given}
+use Rattle.rules.specs.Answers.{answer_of, verdict_of, Given, written_by, FrontWritten}
 
 module _ {A : Type 0} where
   -- an answer and a refusal are never equal, and equal ones hold equal things
@@ -62,3 +64,17 @@ module _ {A : Type 0} (v : Verdict) (a : A) where
       go : (w : Verdict) → Err x ≡ answer_of w a → w ≡ Err x
       go (Ok tt) e = absurd (never a x (sym e))
       go (Err y) e = ap {B = Verdict} Err (one_refusal {A = A} y x (sym e))
+
+-- ---- bytes at the front of a lent buffer
+
+module _ (v : Verdict) (content : List ℕ) (Promise : ℕ → Type 0) (Allowed : Refusal → Type 0) (before : List ℕ) where
+  pub front_refused : (x : Refusal) → v ≡ Err x → Allowed x → FrontWritten v content Promise Allowed before (Err x) before
+  front_refused x e ok =
+      let part : written_by v content ≡ [] = ap (λ (w : Verdict). written_by w content) e in
+      record { given = given_refused v (length content) Promise Allowed x e ok; bytes = rw part; unchanged = λ y q. refl }
+
+  pub front_put : v ≡ Ok tt → (r : ℕ) → r ≡ length content → Promise (length content) → (after : List ℕ) → after ≡ content ++ drop (length content) before
+      → FrontWritten v content Promise Allowed before (Ok r) after
+  front_put e r long ok after put =
+      let part : written_by v content ≡ content = ap (λ (w : Verdict). written_by w content) e in
+      record { given = given_answered v (length content) Promise Allowed r e long ok; bytes = rw part put; unchanged = λ y q. absurd (never r y q) }

@@ -24,24 +24,24 @@ use Rattle.rules.proofs.Booleans.{false-true, both, either, or-true, and-true, a
 
 -- ---- keys
 
-Lower : ℕ → ℕ → List ℕ → List ℕ → Type 0
+abbrev pub Lower : ℕ → ℕ → List ℕ → List ℕ → Type 0
 Lower a b j k = (a < b) ⊎ ((a ≡ b) × (is_below j k ≡ true))
 
-lower : (a b : ℕ) (j k : List ℕ) → is_below (a ∷ j) (b ∷ k) ≡ true → Lower a b j k
-unfolding is_below Lower
+pub lower : (a b : ℕ) (j k : List ℕ) → is_below (a ∷ j) (b ∷ k) ≡ true → Lower a b j k
+unfolding is_below
 lower a b j k e =
     elim (either (ltb a b) (eqb a b && is_below j k) e) [
       | inl h ↦ inl (ltb-true a b h)
       | inr h ↦ let p = both (eqb a b) (is_below j k) h in inr (eqb-true a b p.0, p.1)
     ]
 
-below : (a b : ℕ) (j k : List ℕ) → Lower a b j k → is_below (a ∷ j) (b ∷ k) ≡ true
-unfolding is_below Lower
+pub below : (a b : ℕ) (j k : List ℕ) → Lower a b j k → is_below (a ∷ j) (b ∷ k) ≡ true
+unfolding is_below
 below a b j k (inl h) = rw (lt-ltb a b h)
 below a b j k (inr p) = or-true (ltb a b) (eqb a b && is_below j k) (rw (eq-eqb a b p.0) p.1)
 
 pub below-trans : (j k l : List ℕ) → is_below j k ≡ true → is_below k l ≡ true → is_below j l ≡ true
-unfolding is_below Lower
+unfolding is_below
 below-trans [] k l p q = absurd (false-true p)
 below-trans (a ∷ j) [] l p q = absurd (false-true p)
 below-trans (a ∷ j) (b ∷ k) [] p q = absurd (false-true q)
@@ -54,7 +54,7 @@ below-trans (a ∷ j) (b ∷ k) (c ∷ l) p q = below a c j l (join (lower a b j
     join (inr x) (inr y) rest = inr (x.0 ∙ y.0, rest x.1 y.1)
 
 pub below-itself : (j : List ℕ) → is_below j j ≡ true → ⊥
-unfolding is_below Lower
+unfolding is_below
 below-itself [] h = false-true h
 below-itself (a ∷ j) h = go (lower a a j j h) (below-itself j)
   where
@@ -64,7 +64,6 @@ below-itself (a ∷ j) h = go (lower a a j j h) (below-itself j)
 
 -- the state record with the key above is not earlier
 pub time-not-below : (q r : StateRecord) → is_below (state_key q) (state_key r) ≡ true → q.time ≤ r.time
-unfolding Lower
 time-not-below q r h = go (lower q.time r.time (q.«module» ∷ []) (r.«module» ∷ []) h)
   where
     go : Lower q.time r.time (q.«module» ∷ []) (r.«module» ∷ []) → q.time ≤ r.time
@@ -73,7 +72,7 @@ time-not-below q r h = go (lower q.time r.time (q.«module» ∷ []) (r.«module
 
 -- of two state records of a module, the one with the key above is later
 pub time-above : (q r : StateRecord) → q.«module» ≡ r.«module» → is_below (state_key q) (state_key r) ≡ true → q.time < r.time
-unfolding is_below Lower
+unfolding is_below
 time-above q r e h = go (lower q.time r.time (q.«module» ∷ []) (r.«module» ∷ []) h)
   where
     last : Lower q.«module» r.«module» [] [] → ⊥
@@ -86,7 +85,6 @@ time-above q r e h = go (lower q.time r.time (q.«module» ∷ []) (r.«module»
 
 -- of two keys with the same number in front, the rest of the one above is above
 below_rest : (a b : ℕ) (j k : List ℕ) → a ≡ b → is_below (a ∷ j) (b ∷ k) ≡ true → is_below j k ≡ true
-unfolding Lower
 below_rest a b j k e h = go (lower a b j k h)
   where
     go : Lower a b j k → is_below j k ≡ true
@@ -95,7 +93,7 @@ below_rest a b j k e h = go (lower a b j k h)
 
 -- of two standards for a module and a recipe, the one with the key above starts later
 pub start-above : (b s : Standard) → For s.«module» s.recipe b → is_below (standard_key b) (standard_key s) ≡ true → b.start < s.start
-unfolding is_below Lower
+unfolding is_below
 start-above b s e h =
     let rest : is_below (b.recipe ∷ b.start ∷ []) (s.recipe ∷ s.start ∷ []) ≡ true = below_rest b.«module» s.«module» (b.recipe ∷ b.start ∷ []) (s.recipe ∷ s.start ∷ []) e.0 h in
     go (lower b.start s.start [] [] (below_rest b.recipe s.recipe (b.start ∷ []) (s.start ∷ []) e.1 rest))

@@ -1,0 +1,118 @@
+-- What the joining call writes: the bytes of the joined log, which the reader accepts.
+-- Assumes nothing.
+use mathlib.Core.Path.{◌≡◌, refl, sym, ap, ◌∙◌}
+use mathlib.Core.Bool.{not}
+use mathlib.Core.List.{List, [], ◌∷◌, map}
+use Prim.Native.Nat.{ℕ, suc, ◌+◌, ◌*◌, ◌≤◌, ◌<◌}
+use native.Mathlib.Omega.{arith}
+use lib.Dec.{ltb, eqb}
+use lib.ListN.{length, length-append}
+use borrow.Author.Tests.{eqb-true, not-false}
+use Rattle.records.specs.Log.{Log, decode}
+use Rattle.records.specs.Encode.{header_for, encode}
+use Rattle.records.proofs.RoundTrip.{length-encode}
+use Rattle.rules.specs.declared.Ground.TheVariants.{Period, Counts, UnlikeTools}
+use Rattle.rules.specs.declared.LogList.TheVariants.{NoList}
+use Rattle.rules.specs.Grounds.{Verdict}
+use Rattle.std.specs.declared.result.Result.TheVariants.{Ok, Err}
+use Rattle.rules.specs.Grounds.{ground, ◌then◌}
+use Rattle.rules.specs.Sequence.{standard_key}
+use Rattle.rules.specs.Verdict.{bad_period, bad_counts, verdict}
+use Rattle.rules.proofs.FirstGround.{then-left, then-right, not-met, refused-not}
+use Rattle.rules.specs.Lists.{Each}
+use Rattle.rules.proofs.Each.{each-append, each-map}
+use Rattle.sound.proofs.Encoded.{period-bounds, count-bounds, encoded-says, encoded-accepted}
+use Rattle.sound.specs.Bounds.{Bounded, StandardFits, UnitFits, Writable, Read}
+use Rattle.joining.specs.Joined.{state_up, standard_up, unit_up, joined_log}
+use Rattle.joining.specs.Joins.{of_second, join_grounds, joined_bytes, Joined}
+use Rattle.joining.proofs.Merging.{merged-length, merged-each}
+use Rattle.joining.proofs.JoinedLog.{sums-added, tool-added, credits-kept, joined-sound}
+
+pub length-map : {A B : Type 0} (f : A → B) (rs : List A) → length (map f rs) ≡ length rs
+length-map f [] = refl
+length-map f (r ∷ rs) = ap suc (length-map f rs)
+
+-- ---- how many records
+
+module _ (a b : Log) where
+  pub states-counted : length (joined_log a b).states ≡ length a.states + length b.states
+  unfolding joined_log
+  states-counted = length-append a.states _ ∙ rw (length-map (state_up a.period) b.states)
+
+  pub standards-counted : length (joined_log a b).standards ≡ length a.standards + length b.standards
+  unfolding joined_log
+  standards-counted = merged-length standard_key a.standards (map (standard_up a.period) b.standards) ∙ rw (length-map (standard_up a.period) b.standards)
+
+  pub units-counted : length (joined_log a b).units ≡ length a.units + length b.units
+  unfolding joined_log
+  units-counted = length-append a.units _ ∙ rw (length-map (unit_up a.period) b.units)
+
+  pub joined-length : length (encode (joined_log a b)) ≡ 10 + 6 * (length a.states + length b.states) + 10 * (length a.standards + length b.standards) + 11 * (length a.units + length b.units)
+  joined-length = length-encode (joined_log a b) ∙ rw (states-counted, standards-counted, units-counted)
+
+pub second-accepted : (v : Verdict) → of_second v ≡ Ok tt → v ≡ Ok tt
+second-accepted (Ok tt) e = refl
+second-accepted (Err x) e = absurd (refused-not e)
+
+-- ---- an accepted call
+
+module _ (s t : List ℕ) where
+  abbrev a : Log
+  a = decode s
+
+  abbrev b : Log
+  b = decode t
+
+  -- known once both logs are accepted, ahead of 18
+  pub joined-size : Read s → Read t → length (joined_bytes s t) + 10 ≡ length s + length t
+  unfolding joined_bytes
+  joined-size x y = omega (arith, joined-length a b, x.size, y.size)
+
+  module _ (x : Read s) (y : Read t) (e : join_grounds a b ≡ Ok tt) where
+    abbrev unlike : Verdict
+    unlike = ground UnlikeTools NoList 0 (not (eqb a.modules b.modules))
+
+    abbrev long : Verdict
+    long = ground Period NoList 0 (bad_period (joined_log a b).period)
+
+    abbrev many : Verdict
+    many = ground Counts NoList 0 (bad_counts (header_for (joined_log a b)))
+
+    pub alike : b.modules ≡ a.modules
+    unfolding join_grounds
+    alike = sym (eqb-true a.modules b.modules (not-false (eqb a.modules b.modules) (not-met UnlikeTools NoList 0 _ (then-left unlike (long then many) e))))
+
+    bounded : Bounded (joined_log a b)
+    unfolding join_grounds joined_log
+    bounded =
+        let e2 = then-right unlike (long then many) e in
+        let p = period-bounds (joined_log a b).period (not-met Period NoList 0 _ (then-left long many e2)) in
+        let c = count-bounds (header_for (joined_log a b)) (not-met Counts NoList 0 _ (then-right long many e2)) in
+        record { some_time = p.0; short = p.1; some_module = x.writable.bounded.some_module; few = x.writable.bounded.few; states = c.0; standards = c.1; units = c.2 }
+
+    standards-fit : Each StandardFits (joined_log a b).standards
+    unfolding joined_log
+    standards-fit =
+        merged-each standard_key StandardFits a.standards (map (standard_up a.period) b.standards) x.writable.standards
+        (each-map (standard_up a.period) StandardFits StandardFits (λ r h. record { recipe = h.recipe; theoretical = h.theoretical }) b.standards y.writable.standards)
+
+    units-fit : Each UnitFits (joined_log a b).units
+    unfolding joined_log
+    units-fit =
+        each-append UnitFits a.units _ x.writable.units
+        (each-map (unit_up a.period) UnitFits UnitFits (λ r h. record { recipe = h.recipe; actual = h.actual; effective = h.effective }) b.units y.writable.units)
+
+    pub joined-writable : Writable (joined_log a b)
+    joined-writable = record { sound = joined-sound a b x.writable.sound y.writable.sound alike; bounded = bounded; standards = standards-fit; units = units-fit }
+
+    pub joined-log : Joined s t
+    unfolding joined_bytes
+    joined-log =
+        record {
+          says = encoded-says (joined_log a b) joined-writable;
+          accepted = encoded-accepted (joined_log a b) joined-writable;
+          size = joined-size x y;
+          sums = sums-added a b x.writable.sound y.writable.sound alike;
+          tool = tool-added a b x.writable.sound y.writable.sound alike;
+          credits = credits-kept a b x.writable.sound y.writable.sound alike;
+        }

@@ -1,0 +1,2 @@
+// One log of two consecutive ones.
+#![tactic(auto)]
