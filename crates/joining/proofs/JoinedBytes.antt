@@ -21,7 +21,8 @@ use Rattle.rules.specs.Verdict.{bad_period, bad_counts, verdict}
 use Rattle.rules.proofs.FirstGround.{then-left, then-right, not-met, refused-not}
 use Rattle.rules.specs.Lists.{Each}
 use Rattle.rules.proofs.Each.{each-append, each-map}
-use Rattle.sound.proofs.Encoded.{period-bounds, count-bounds, encoded-says, encoded-accepted}
+use Rattle.sound.proofs.Encoded.{encoded-says, encoded-accepted}
+use Rattle.judging.proofs.Bounds.{good-period, good-counts}
 use Rattle.sound.specs.Bounds.{Bounded, StandardFits, UnitFits, Writable, Read}
 use Rattle.joining.specs.Joined.{state_up, standard_up, unit_up, joined_log}
 use Rattle.joining.specs.Joins.{of_second, join_grounds, joined_bytes, Joined}
@@ -86,8 +87,8 @@ module _ (s t : List ℕ) where
     unfolding join_grounds joined_log
     bounded =
         let e2 = then-right unlike (long then many) e in
-        let p = period-bounds (joined_log a b).period (not-met Period NoList 0 _ (then-left long many e2)) in
-        let c = count-bounds (header_for (joined_log a b)) (not-met Counts NoList 0 _ (then-right long many e2)) in
+        let p = good-period (joined_log a b).period (not-met Period NoList 0 _ (then-left long many e2)) in
+        let c = good-counts (header_for (joined_log a b)) (not-met Counts NoList 0 _ (then-right long many e2)) in
         record { some_time = p.0; short = p.1; some_module = x.writable.bounded.some_module; few = x.writable.bounded.few; states = c.0; standards = c.1; units = c.2 }
 
     standards-fit : Each StandardFits (joined_log a b).standards

@@ -27,7 +27,6 @@ use Rattle.rules.specs.Lists.{Each, Before, Rises}
 use Rattle.rules.proofs.Each.{each-so, each-append, each-map, each-image, rises-append, rises-map}
 use Rattle.rules.specs.Sound.{StateSound, StandardSound, UnitSound, Sound}
 use Rattle.rules.proofs.Sound.{sound}
-use Rattle.sound.proofs.NotTooGreat.{sound-accepted}
 use Rattle.sound.proofs.Force.{at-member, member-at, not-none}
 use Rattle.joining.specs.Joined.{state_up, standard_up, unit_up, joined_log, added, SumsAdded, IsOfFirst, IsOfSecond, CreditsKept}
 use Rattle.joining.proofs.Merging.{merged-each, merged-first, merged-second}

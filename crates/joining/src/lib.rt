@@ -1,2 +1,1 @@
-// One log of two consecutive ones.
 #![tactic(auto)]

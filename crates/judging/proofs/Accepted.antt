@@ -20,6 +20,7 @@ use Rattle.rules.specs.Theoretical.{in_force, time_of, credit, theoretical_time}
 use Rattle.rules.specs.RecordGrounds.{unit_ground, unit_grounds}
 use Rattle.rules.specs.Quantities.{time_in, uptime, actual_time, effective_time, sum_below, module_times, all_times, of_tool, tool_times}
 use Rattle.rules.specs.Verdict.{fast_ground, is_over, any_over, any_time_over, sum_grounds}
+use Rattle.rules.proofs.Sound.{unit-tests}
 use Rattle.rules.proofs.FirstGround.{then-left, then-right, not-met, first_all}
 use Rattle.states.proofs.SixTimes.{state_time-le, six_times_lem}
 use Rattle.judging.specs.Working.{Grounded, Consistent}
@@ -28,12 +29,7 @@ use Rattle.rules.proofs.SumLaws.{sum-le, sum-each}
 -- ---- effective units are among the actual ones
 
 effective-le : (period modules : ℕ) (ss : List Standard) (us : List UnitRecord) (i : ℕ) (u : UnitRecord) → unit_ground period modules ss us i u ≡ Ok tt → u.effective ≤ u.actual
-unfolding unit_ground
-effective-le period modules ss us i u e =
-    let a = then-right (ground Spare Units i (not (eqb u.spare 0))) _ e in
-    let b = then-right (ground StrayModule Units i (leb modules u.«module»)) _ a in
-    let c = then-right (ground Outside Units i (leb period u.time)) _ b in
-    ltb-false u.actual u.effective (not-met OverGood Units i (ltb u.actual u.effective) (then-left (ground OverGood Units i (ltb u.actual u.effective)) _ c))
+effective-le period modules ss us i u e = ((unit-tests period modules ss).local us i u e).within
 
 credit-le : (ss : List Standard) (m : ℕ) (u : UnitRecord) → u.effective ≤ u.actual → credit (λ u. u.effective) ss m u ≤ credit (λ u. u.actual) ss m u
 unfolding credit

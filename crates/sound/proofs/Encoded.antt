@@ -16,34 +16,24 @@ use Rattle.records.proofs.UpTo.{length_up_to}
 use Rattle.records.proofs.Widths.{standard-fits, unit-fits}
 use Rattle.records.proofs.RoundTrip.{length-encode, header-encode, decode-encode}
 use Rattle.std.specs.declared.result.Result.TheVariants.{Ok}
-use Rattle.rules.specs.declared.Ground.TheVariants.{NoHeader, Period, Modules, Counts, Length}
+use Rattle.rules.specs.declared.Ground.TheVariants.{TooGreat}
 use Rattle.rules.specs.declared.LogList.TheVariants.{NoList}
-use Rattle.rules.specs.Grounds.{ground}
-use Rattle.rules.specs.Verdict.{bad_period, bad_modules, bad_counts, bad_length, header_grounds, record_grounds, verdict}
+use Rattle.rules.specs.Grounds.{first_of, each_of}
+use Rattle.rules.specs.Names.{productive}
+use Rattle.rules.specs.Quantities.{time_in, actual_time, of_tool, tool_times}
+use Rattle.rules.specs.RecordGrounds.{state_ground, opening_ground, state_grounds, standard_ground, standard_grounds, unit_ground, unit_grounds}
+use Rattle.rules.specs.Sequence.{state_key, standard_key, unit_key}
+use Rattle.rules.specs.Verdict.{any_over, any_time_over, fast_ground, sum_grounds, header_grounds, record_grounds, verdict}
 use Rattle.rules.proofs.FirstGround.{then-left, then-right, not-met}
 use Rattle.rules.specs.Lists.{Each}
 use Rattle.rules.proofs.Each.{each-both, each-append}
 use Rattle.rules.specs.Sound.{StateSound, StandardSound, UnitSound, Sound}
 use Rattle.rules.proofs.Booleans.{or_left, or_right}
-use Rattle.rules.proofs.Sound.{then-both, sound}
+use Rattle.rules.proofs.Sound.{no-ground, then-both, first-of, list-passes, state-tests, standard-tests, unit-tests, sound}
 use Rattle.sound.specs.Bounds.{Bounded, StandardFits, UnitFits, Writable, Read}
-use Rattle.sound.proofs.NotTooGreat.{sound-accepted}
-
--- ---- a header within the bounds
-
-pub period-bounds : (p : ℕ) → bad_period p ≡ false → (0 < p) × (p ≤ 31622400000)
-period-bounds p e = (omega (arith, eqb-false p 0 (or_left (eqb p 0) (ltb 31622400000 p) e)), ltb-false 31622400000 p (or_right (eqb p 0) (ltb 31622400000 p) e))
-
-module-bounds : (n : ℕ) → bad_modules n ≡ false → (0 < n) × (n ≤ 64)
-module-bounds n e = (omega (arith, eqb-false n 0 (or_left (eqb n 0) (ltb 64 n) e)), ltb-false 64 n (or_right (eqb n 0) (ltb 64 n) e))
-
-pub count-bounds : (h : Header) → bad_counts h ≡ false → (h.states ≤ 6000) × (h.standards ≤ 512) × (h.units ≤ 2000)
-count-bounds h e =
-    let r = or_right (ltb 6000 h.states) (ltb 512 h.standards || ltb 2000 h.units) e in (
-      ltb-false 6000 h.states (or_left (ltb 6000 h.states) (ltb 512 h.standards || ltb 2000 h.units) e),
-      ltb-false 512 h.standards (or_left (ltb 512 h.standards) (ltb 2000 h.units) r),
-      ltb-false 2000 h.units (or_right (ltb 512 h.standards) (ltb 2000 h.units) r),
-    )
+use Rattle.judging.specs.Working.{Grounded}
+use Rattle.judging.proofs.Accepted.{consistent, none_over}
+use Rattle.judging.proofs.Judging.{accepted_counts}
 
 -- ---- what is read
 
@@ -52,37 +42,23 @@ unfolding up_to
 each-up_to P at zero h = tt
 each-up_to P at (suc n) h = each-append P (up_to at n) (at n ∷ []) (each-up_to P at n h) (h n, tt)
 
-module _ (s : List ℕ) where
-  abbrev h : Header
-  h = header_of s
-
-  pub read : verdict s ≡ Ok tt → Read s
-  unfolding verdict header_grounds decode
-  read e =
-      let e1 = then-left (header_grounds s) (record_grounds (decode s)) e in
-      let e2 = then-right (ground NoHeader NoList 0 (ltb (length s) 10)) _ e1 in
-      let g2 = ground Period NoList 0 (bad_period h.period) in
-      let e3 = then-right g2 _ e2 in
-      let g3 = ground Modules NoList 0 (bad_modules h.modules) in
-      let e4 = then-right g3 _ e3 in
-      let g4 = ground Counts NoList 0 (bad_counts h) in
-      let e5 = then-right g4 (ground Length NoList 0 (bad_length (length s) h)) e4 in
-      let p = period-bounds h.period (not-met Period NoList 0 _ (then-left g2 _ e2)) in
-      let m = module-bounds h.modules (not-met Modules NoList 0 _ (then-left g3 _ e3)) in
-      let c = count-bounds h (not-met Counts NoList 0 _ (then-left g4 _ e4)) in
-      let n = 10 + 6 * h.states + 10 * h.standards + 11 * h.units in
-      let a = length_up_to (state_at s) h.states in
-      let b = length_up_to (standard_at s h) h.standards in
-      let d = length_up_to (unit_at s h) h.units in
-      record {
-        writable = record {
-          sound = sound (decode s) (then-right (header_grounds s) (record_grounds (decode s)) e);
-          bounded = record { some_time = p.0; short = p.1; some_module = m.0; few = m.1; states = rw a c.0; standards = rw b c.1; units = rw d c.2 };
-          standards = each-up_to StandardFits (standard_at s h) h.standards (λ i. let f = standard-fits s (80 + 48 * h.states + 80 * i) in record { recipe = f.1.0; theoretical = f.1.1.1.0 });
-          units = each-up_to UnitFits (unit_at s h) h.units (λ i. let f = unit-fits s (80 + 48 * h.states + 80 * h.standards + 88 * i) in record { recipe = f.1.0; actual = f.1.1.1.0; effective = f.1.1.1.1.0 });
-        };
-        size = rw (a, b, d) (eqb-true (length s) n (not-false (eqb (length s) n) (not-met Length NoList 0 (bad_length (length s) h) e5)));
-      }
+pub read : (s : List ℕ) → verdict s ≡ Ok tt → Read s
+unfolding verdict decode
+read s e =
+    let h = header_of s in
+    let c = accepted_counts s e in
+    let a = length_up_to (state_at s) h.states in
+    let b = length_up_to (standard_at s h) h.standards in
+    let d = length_up_to (unit_at s h) h.units in
+    record {
+      writable = record {
+        sound = sound (decode s) (then-right (header_grounds s) (record_grounds (decode s)) e);
+        bounded = record { some_time = c.period.0; short = c.period.1; some_module = c.modules.0; few = c.modules.1; states = rw a c.counts.0; standards = rw b c.counts.1; units = rw d c.counts.2 };
+        standards = each-up_to StandardFits (standard_at s h) h.standards (λ i. let f = standard-fits s (80 + 48 * h.states + 80 * i) in record { recipe = f.1.0; theoretical = f.1.1.1.0 });
+        units = each-up_to UnitFits (unit_at s h) h.units (λ i. let f = unit-fits s (80 + 48 * h.states + 80 * h.standards + 88 * i) in record { recipe = f.1.0; actual = f.1.1.1.0; effective = f.1.1.1.1.0 });
+      };
+      size = rw (a, b, d) c.whole;
+    }
 
 -- ---- a sound log as bytes
 
@@ -109,6 +85,39 @@ module _ (l : Log) (w : Writable l) where
   pub encoded-says : decode (encode l) ≡ l
   encoded-says = decode-encode l fits
 
+  -- its records are accepted
+  state_records : state_grounds l.period l.modules l.states ≡ Ok tt
+  unfolding state_grounds opening_ground
+  state_records =
+      then-both (each_of (state_ground l.period l.modules) l.states) (first_of (opening_ground l.states) l.modules)
+      (list-passes state_key (state_ground l.period l.modules) (StateSound l.period l.modules) (state-tests l.period l.modules) l.states s.states s.states_rise)
+      (first-of (opening_ground l.states) l.modules (λ m h. rw (s.opened m h)))
+
+  standards_pass : standard_grounds l.period l.modules l.standards ≡ Ok tt
+  unfolding standard_grounds
+  standards_pass = list-passes standard_key (standard_ground l.period l.modules) (StandardSound l.period l.modules) (standard-tests l.period l.modules) l.standards s.standards s.standards_rise
+
+  unit_records : unit_grounds l.period l.modules l.standards l.units ≡ Ok tt
+  unfolding unit_grounds
+  unit_records =
+      list-passes unit_key (unit_ground l.period l.modules l.standards) (UnitSound l.period l.modules l.standards) (unit-tests l.period l.modules l.standards) l.units s.units s.units_rise
+
+  grounded : Grounded l
+  grounded = record { one_module = b.some_module; few = b.few; begun = b.some_time; short = b.short; states = state_records; units = unit_records }
+
+  slow : first_of (fast_ground l) l.modules ≡ Ok tt
+  unfolding fast_ground
+  slow = first-of (fast_ground l) l.modules (λ m h. rw (le-ltb (time_in l productive m) (actual_time l m) (s.slow m h)))
+
+  records_accepted : record_grounds l ≡ Ok tt
+  unfolding record_grounds sum_grounds
+  records_accepted =
+      then-both (state_grounds l.period l.modules l.states) _ state_records
+      (then-both (standard_grounds l.period l.modules l.standards) _ standards_pass
+      (then-both (unit_grounds l.period l.modules l.standards l.units) _ unit_records
+      (then-both (first_of (fast_ground l) l.modules) _ slow
+      (no-ground TooGreat NoList 0 (any_over (of_tool l) || any_time_over (tool_times l)) (none_over l (consistent l grounded slow))))))
+
   within : header_grounds (encode l) ≡ Ok tt
   unfolding header_grounds
   within =
@@ -128,4 +137,4 @@ module _ (l : Log) (w : Writable l) where
 
   pub encoded-accepted : verdict (encode l) ≡ Ok tt
   unfolding verdict
-  encoded-accepted = then-both (header_grounds (encode l)) (record_grounds (decode (encode l))) within (ap record_grounds encoded-says ∙ sound-accepted l b.few b.short s)
+  encoded-accepted = then-both (header_grounds (encode l)) (record_grounds (decode (encode l))) within (ap record_grounds encoded-says ∙ records_accepted)

@@ -1,4 +1,3 @@
-pub mod NotTooGreat
 pub mod Codes
 pub mod Force
 pub mod Encoded
