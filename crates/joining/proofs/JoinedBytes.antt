@@ -26,12 +26,9 @@ use Rattle.judging.proofs.Bounds.{good-period, good-counts}
 use Rattle.sound.specs.Bounds.{Bounded, StandardFits, UnitFits, Writable, Read}
 use Rattle.joining.specs.Joined.{state_up, standard_up, unit_up, joined_log}
 use Rattle.joining.specs.Joins.{of_second, join_grounds, joined_bytes, Joined}
+use Rattle.joining.proofs.MovedLists.{length-map}
 use Rattle.joining.proofs.Merging.{merged-length, merged-each}
 use Rattle.joining.proofs.JoinedLog.{sums-added, tool-added, credits-kept, joined-sound}
-
-pub length-map : {A B : Type 0} (f : A → B) (rs : List A) → length (map f rs) ≡ length rs
-length-map f [] = refl
-length-map f (r ∷ rs) = ap suc (length-map f rs)
 
 -- ---- how many records
 

@@ -7,3 +7,6 @@ pub mod JoinedUnits
 pub mod JoinedLog
 pub mod JoinedBytes
 pub mod JoinRefusals
+pub mod MovedBytes
+pub mod MovedLists
+pub mod Turning

@@ -1,3 +1,5 @@
 pub mod Merged
 pub mod Joined
 pub mod Joins
+pub mod Turns
+pub mod Parts

@@ -19,6 +19,12 @@ use Rattle.records.proofs.RecordKinds.{Kind, placed, rewritten, header-kind, sta
 
 -- ---- the bytes of a list of records
 
+-- the bytes of two lists, one after the other
+pub joined-append : {A : Type 0} (bytes : A → List ℕ) (rs qs : List A) → joined bytes (rs ++ qs) ≡ joined bytes rs ++ joined bytes qs
+unfolding joined
+joined-append bytes [] qs = refl
+joined-append bytes (r ∷ rs) qs = rw (joined-append bytes rs qs, append_assoc (bytes r) (joined bytes rs) (joined bytes qs))
+
 module _ {A : Type 0} (size : ℕ) (slots : A → List Slot) where
   pub length_joined : (rs : List A) → length (joined (λ r. packed size (slots r)) rs) ≡ size * length rs
   unfolding joined
@@ -26,11 +32,6 @@ module _ {A : Type 0} (size : ℕ) (slots : A → List Slot) where
   length_joined (r ∷ rs) =
       length-append (packed size (slots r)) (joined (λ r. packed size (slots r)) rs)
       ∙ rw (length-packed size (slots r), length_joined rs, mul-suc size (length rs)) (add_comm size (size * length rs))
-
-  joined-append : (rs qs : List A) → joined (λ r. packed size (slots r)) (rs ++ qs) ≡ joined (λ r. packed size (slots r)) rs ++ joined (λ r. packed size (slots r)) qs
-  unfolding joined
-  joined-append [] qs = refl
-  joined-append (r ∷ rs) qs = rw (joined-append rs qs, append_assoc (packed size (slots r)) (joined (λ r. packed size (slots r)) rs) (joined (λ r. packed size (slots r)) qs))
 
   -- the bytes of record i stand behind those of the i before it
   pub joined_at : (rs : List A) (rest : List ℕ) (i : ℕ) (d : A) → i < length rs
@@ -66,7 +67,7 @@ module _ {A : Type 0} {size : ℕ} {from : List ℕ → ℕ → A} {slots : A �
   list_written at s base small h zero l = rw (mul-zero size)
   list_written at s base small h (suc n) l =
       let m : base + size * n + size ≤ length s = rw (mul-suc size n, ← add_assoc base (size * n) size) at l in
-      joined-append size slots (up_to at n) (at n ∷ [])
+      joined-append (λ r. packed size (slots r)) (up_to at n) (at n ∷ [])
       ∙ rw (list_written at s base small h n (omega arith), append-nil (packed size (slots (at n))), h n, rewritten K s (base + size * n) small m, ← drop-drop (size * n) base s, mul-suc size n)
       (sym (take-add (size * n) size (drop base s)))
 

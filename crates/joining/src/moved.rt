@@ -16,7 +16,7 @@ fn put_state(buf: &mut [u8], at: usize, states: StateRecords, i: usize, by: u64)
     requires index { i < states.header.states }
     requires room { at + 6 ≤ length buf.old }
     requires fits { by + (state_at states.bytes.now i).time < 2 ^ 35 }
-    ensures { Put (state_bytes (state_up by (state_at states.bytes.now i))) buf.old at result buf.new }
+    ensures { Put (state_bytes (state_up by (state_at states.entry.bytes.now i))) buf.old at result buf.new }
 {
     let word = bits::read_word(states.bytes, 8 * (8 + 6 * i));
     filling::put_number(buf, at, 6, word % 0x1_0000_0000_0000 + 4 * by)
@@ -41,7 +41,7 @@ pub fn put_standard(buf: &mut [u8], at: usize, standards: StandardRecords, i: us
     requires index { i < standards.header.standards }
     requires room { at + 10 ≤ length buf.old }
     requires fits { by + (standard_at standards.bytes.now standards.header i).start < 2 ^ 35 }
-    ensures { Put (standard_bytes (standard_up by (standard_at standards.bytes.now standards.header i))) buf.old at result buf.new }
+    ensures { Put (standard_bytes (standard_up by (standard_at standards.entry.bytes.now standards.entry.header i))) buf.old at result buf.new }
 {
     let from = 10 + 6 * standards.header.states + 10 * i;
     put_moved(buf, at, standards.bytes, from, 2, by)
@@ -52,7 +52,7 @@ fn put_unit(buf: &mut [u8], at: usize, units: UnitRecords, i: usize, by: u64) ->
     requires index { i < units.header.units }
     requires room { at + 11 ≤ length buf.old }
     requires fits { by + (unit_at units.bytes.now units.header i).time < 2 ^ 35 }
-    ensures { Put (unit_bytes (unit_up by (unit_at units.bytes.now units.header i))) buf.old at result buf.new }
+    ensures { Put (unit_bytes (unit_up by (unit_at units.entry.bytes.now units.entry.header i))) buf.old at result buf.new }
 {
     let from = units.begin() + 11 * i;
     put_moved(buf, at, units.bytes, from, 3, by)
@@ -62,7 +62,7 @@ fn put_unit(buf: &mut [u8], at: usize, units: UnitRecords, i: usize, by: u64) ->
 pub fn put_states(buf: &mut [u8], at: usize, states: StateRecords, by: u64) -> usize
     requires room { at + 6 * states.header.states ≤ length buf.old }
     requires fits { (i : ℕ) → i < states.header.states → by + (state_at states.bytes.now i).time < 2 ^ 35 }
-    ensures { Put (joined state_bytes (map (state_up by) (up_to (state_at states.bytes.now) states.header.states))) buf.old at result buf.new }
+    ensures { Put (joined state_bytes (map (state_up by) (up_to (state_at states.entry.bytes.now) states.entry.header.states))) buf.old at result buf.new }
 {
     let mut next = at;
     for i in 0..states.header.states {
@@ -75,7 +75,7 @@ pub fn put_states(buf: &mut [u8], at: usize, states: StateRecords, by: u64) -> u
 pub fn put_units(buf: &mut [u8], at: usize, units: UnitRecords, by: u64) -> usize
     requires room { at + 11 * units.header.units ≤ length buf.old }
     requires fits { (i : ℕ) → i < units.header.units → by + (unit_at units.bytes.now units.header i).time < 2 ^ 35 }
-    ensures { Put (joined unit_bytes (map (unit_up by) (up_to (unit_at units.bytes.now units.header) units.header.units))) buf.old at result buf.new }
+    ensures { Put (joined unit_bytes (map (unit_up by) (up_to (unit_at units.entry.bytes.now units.entry.header) units.entry.header.units))) buf.old at result buf.new }
 {
     let mut next = at;
     for i in 0..units.header.units {

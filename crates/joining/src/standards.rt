@@ -10,13 +10,13 @@ ghost use Rattle.joining.specs.Joined.{standard_up};
 ghost use Rattle.joining.specs.Merged.{merged};
 ghost use Rattle.joining.specs.Turns.{Mergeable, Left, Next};
 
-use crate::moving::put_standard;
+use crate::moved::put_standard;
 use records::StandardRecords;
 
 // The module, the recipe and the start of standard i, as one number of 51 bits.
 fn key(standards: StandardRecords, i: usize) -> u64
     requires { i < standards.header.standards }
-    ensures { result + 2 ^ 35 ≡ standard_number (standard_at standards.bytes.now standards.header i) }
+    ensures { result + 2 ^ 35 ≡ standard_number (standard_at standards.entry.bytes.now standards.entry.header i) }
 {
     let from = 10 + 6 * standards.header.states + 10 * i;
     bits::read_word(standards.bytes, 8 * from) / 0x2000
@@ -26,7 +26,7 @@ fn key(standards: StandardRecords, i: usize) -> u64
 fn first_is_next(first: StandardRecords, second: StandardRecords, i: usize, j: usize, by: u64) -> bool
     requires left { Left first.header.standards second.header.standards i j }
     requires mergeable { Mergeable (standard_at first.bytes.now first.header) first.header.standards (standard_at second.bytes.now second.header) second.header.standards by }
-    ensures { Next (standard_at first.bytes.now first.header) first.header.standards (standard_at second.bytes.now second.header) second.header.standards by i j result }
+    ensures { Next (standard_at first.entry.bytes.now first.entry.header) first.entry.header.standards (standard_at second.entry.bytes.now second.entry.header) second.entry.header.standards by i j result }
 {
     if i == first.header.standards {
         return false;
@@ -41,7 +41,7 @@ fn first_is_next(first: StandardRecords, second: StandardRecords, i: usize, j: u
 pub fn put_standards(buf: &mut [u8], at: usize, first: StandardRecords, second: StandardRecords, by: u64) -> usize
     requires room { at + 10 * (first.header.standards + second.header.standards) ≤ length buf.old }
     requires mergeable { Mergeable (standard_at first.bytes.now first.header) first.header.standards (standard_at second.bytes.now second.header) second.header.standards by }
-    ensures { Put (joined standard_bytes (merged standard_key (up_to (standard_at first.bytes.now first.header) first.header.standards) (map (standard_up by) (up_to (standard_at second.bytes.now second.header) second.header.standards)))) buf.old at result buf.new }
+    ensures { Put (joined standard_bytes (merged standard_key (up_to (standard_at first.entry.bytes.now first.entry.header) first.entry.header.standards) (map (standard_up by) (up_to (standard_at second.entry.bytes.now second.entry.header) second.entry.header.standards)))) buf.old at result buf.new }
 {
     let n = first.header.standards + second.header.standards;
     let mut i = 0;

@@ -1,0 +1,23 @@
+-- `joining::put_header` meets its contract: the five fields side by side are seven bytes and three. Assumes nothing.
+use mathlib.Core.Path.{◌≡◌, refl, sym}
+use Prim.Native.Nat.{◌+◌, ◌*◌, ◌/◌}
+use native.Mathlib.Omega.{arith}
+use Rattle.filling.proofs.Numbers.{number-length}
+use Rattle.filling.proofs.Written.{then, read_as, put-length}
+use Rattle.records.specs.Encode.{header_slots}
+use Rattle.writing.proofs.Bytes.{record-bytes}
+use Rattle.joining.proofs.put_header.Goals as goal
+
+pub put_number-requires : goal.put_number-requires
+put_number-requires c =
+    let h = c.args.h in
+    let seven = number-length 7 ((h.period * 128 + h.modules) * 16384 + h.states) in
+    let same = put-length c.put_number-middle.ensures (omega (arith, seven)) in
+    (omega (arith, same, seven, c.put_number-middle.ensures.next), omega arith)
+
+pub returns : goal.returns
+returns c =
+    let h = c.args.h in
+    let f = c.requires.fits in
+    let bytes = record-bytes 7 3 (header_slots h) ((h.period * 128 + h.modules) * 16384 + h.states) (h.standards * 8192 + h.units) f refl (omega (arith, f.1.1.1.0, f.1.1.1.1.0)) (omega (arith, f.1.1.1.0, f.1.1.1.1.0)) in
+    read_as (sym bytes) ((then) c.put_number-middle.ensures c.put_number.ensures)
