@@ -10,3 +10,5 @@ pub mod JoinRefusals
 pub mod MovedBytes
 pub mod MovedLists
 pub mod Turning
+pub mod Laid
+pub mod Answering

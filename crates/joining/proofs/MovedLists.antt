@@ -27,6 +27,9 @@ length-map f [] = refl
 length-map f (r ∷ rs) = ap suc (length-map f rs)
 
 -- as many bytes as records of this size have
-pub lined-length : {A : Type 0} (size : ℕ) (slots : A → List Slot) (f : A → A) (at : ℕ → A) (n : ℕ) → length (lines (λ i. packed size (slots (f (at i)))) n) ≡ size * n
-lined-length size slots f at n =
-    ap length (lined (λ r. packed size (slots r)) f at n) ∙ length_joined size slots (map f (up_to at n)) ∙ ap (λ (k : ℕ). size * k) (length-map f (up_to at n) ∙ length_up_to at n)
+module _ {A : Type 0} (size : ℕ) (slots : A → List Slot) (f : A → A) (at : ℕ → A) where
+  pub moved-length : (n : ℕ) → length (joined (λ r. packed size (slots r)) (map f (up_to at n))) ≡ size * n
+  moved-length n = length_joined size slots (map f (up_to at n)) ∙ ap (λ (k : ℕ). size * k) (length-map f (up_to at n) ∙ length_up_to at n)
+
+  pub lined-length : (n : ℕ) → length (lines (λ i. packed size (slots (f (at i)))) n) ≡ size * n
+  lined-length n = ap length (lined (λ r. packed size (slots r)) f at n) ∙ moved-length n

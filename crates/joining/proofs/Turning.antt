@@ -31,7 +31,6 @@ use Rattle.rules.proofs.Keys.{standards-below}
 use Rattle.joining.specs.Joined.{standard_up}
 use Rattle.joining.specs.Merged.{merged}
 use Rattle.joining.specs.Turns.{Mergeable, Left, Next}
-use Rattle.joining.proofs.Merging.{merge-done}
 use Rattle.joining.proofs.MergeLoop.{take-first, take-second}
 use Rattle.joining.proofs.MovedLists.{map-append, length-map}
 use Rattle.joining.proofs.Up.{standard-up}

@@ -12,6 +12,7 @@ ghost use Rattle.filling.specs.Buffer.{Put};
 ghost use Rattle.records.specs.Encode.{header_slots, header_bytes};
 ghost use Rattle.records.specs.Log.{decode};
 ghost use Rattle.rules.specs.Answers.{answer_of};
+ghost use Rattle.rules.specs.SameRecords.{Bytes};
 ghost use Rattle.rules.specs.Verdict.{verdict};
 ghost use Rattle.joining.specs.Joins.{joined_bytes, join_grounds, of_second, Joins};
 ghost use Rattle.joining.specs.Parts.{joined_header, header_verdict, InBounds};
@@ -57,7 +58,8 @@ fn judge_second(log: &[u8]) -> Result<Account<'_>, Refusal>
 fn put_header(buf: &mut [u8], h: Header) -> usize
     requires fits { Fit (header_slots h) }
     requires room { 10 ≤ length buf.old }
-    ensures { Put (header_bytes h) buf.old 0 result buf.new }
+    ensures put { Put (header_bytes h) buf.old 0 result buf.new }
+    ensures place { result ≡ 10 }
 {
     let first = (h.period * 0x80 + h.modules as u64) * 0x4000 + h.states as u64;
     let second = h.standards as u64 * 0x2000 + h.units as u64;
@@ -69,6 +71,7 @@ fn put_header(buf: &mut [u8], h: Header) -> usize
 fn put_log(buf: &mut [u8], a: WholeLog, b: WholeLog, h: Header) -> usize
     requires first { verdict a.bytes.now ≡ Ok tt }
     requires second { verdict b.bytes.now ≡ Ok tt }
+    requires small { Bytes a.bytes.now }
     requires own { h ≡ joined_header a.header b.header }
     requires allowed { join_grounds (decode a.bytes.now) (decode b.bytes.now) ≡ Ok tt }
     requires room { length (joined_bytes a.bytes.now b.bytes.now) ≤ length buf.old }

@@ -62,7 +62,8 @@ fn put_unit(buf: &mut [u8], at: usize, units: UnitRecords, i: usize, by: u64) ->
 pub fn put_states(buf: &mut [u8], at: usize, states: StateRecords, by: u64) -> usize
     requires room { at + 6 * states.header.states ≤ length buf.old }
     requires fits { (i : ℕ) → i < states.header.states → by + (state_at states.bytes.now i).time < 2 ^ 35 }
-    ensures { Put (joined state_bytes (map (state_up by) (up_to (state_at states.entry.bytes.now) states.entry.header.states))) buf.old at result buf.new }
+    ensures place { result ≡ at + 6 * states.entry.header.states }
+    ensures put { Put (joined state_bytes (map (state_up by) (up_to (state_at states.entry.bytes.now) states.entry.header.states))) buf.old at result buf.new }
 {
     let mut next = at;
     for i in 0..states.header.states {

@@ -41,7 +41,8 @@ fn first_is_next(first: StandardRecords, second: StandardRecords, i: usize, j: u
 pub fn put_standards(buf: &mut [u8], at: usize, first: StandardRecords, second: StandardRecords, by: u64) -> usize
     requires room { at + 10 * (first.header.standards + second.header.standards) ≤ length buf.old }
     requires mergeable { Mergeable (standard_at first.bytes.now first.header) first.header.standards (standard_at second.bytes.now second.header) second.header.standards by }
-    ensures { Put (joined standard_bytes (merged standard_key (up_to (standard_at first.entry.bytes.now first.entry.header) first.entry.header.standards) (map (standard_up by) (up_to (standard_at second.entry.bytes.now second.entry.header) second.entry.header.standards)))) buf.old at result buf.new }
+    ensures place { result ≡ at + 10 * (first.entry.header.standards + second.entry.header.standards) }
+    ensures put { Put (joined standard_bytes (merged standard_key (up_to (standard_at first.entry.bytes.now first.entry.header) first.entry.header.standards) (map (standard_up by) (up_to (standard_at second.entry.bytes.now second.entry.header) second.entry.header.standards)))) buf.old at result buf.new }
 {
     let n = first.header.standards + second.header.standards;
     let mut i = 0;

@@ -33,6 +33,10 @@ module _ {A : Type 0} where
   each-left P [] qs e = tt
   each-left P (r ∷ rs) qs e = (e.0, each-left P rs qs e.1)
 
+  pub each-right : (P : A → Type 0) (rs qs : List A) → Each P (rs ++ qs) → Each P qs
+  each-right P [] qs e = e
+  each-right P (r ∷ rs) qs e = each-right P rs qs e.1
+
   pub each-map : {B : Type 0} (f : B → A) (P : B → Type 0) (Q : A → Type 0) → ((r : B) → P r → Q (f r)) → (rs : List B) → Each P rs → Each Q (map f rs)
   each-map f P Q h [] e = tt
   each-map f P Q h (r ∷ rs) e = (h r e.0, each-map f P Q h rs e.1)

@@ -15,9 +15,12 @@ put_number-requires c =
     let same = put-length c.put_number-middle.ensures (omega (arith, seven)) in
     (omega (arith, same, seven, c.put_number-middle.ensures.next), omega arith)
 
-pub returns : goal.returns
-returns c =
+pub returns-clause-put : goal.returns-clause-put
+returns-clause-put c =
     let h = c.args.h in
     let f = c.requires.fits in
     let bytes = record-bytes 7 3 (header_slots h) ((h.period * 128 + h.modules) * 16384 + h.states) (h.standards * 8192 + h.units) f refl (omega (arith, f.1.1.1.0, f.1.1.1.1.0)) (omega (arith, f.1.1.1.0, f.1.1.1.1.0)) in
     read_as (sym bytes) ((then) c.put_number-middle.ensures c.put_number.ensures)
+
+pub returns-clause-place : goal.returns-clause-place
+returns-clause-place c = omega (arith, c.put_number-middle.ensures.next, c.put_number.ensures.next, number-length 7 ((c.args.h.period * 128 + c.args.h.modules) * 16384 + c.args.h.states), number-length 3 (c.args.h.standards * 8192 + c.args.h.units))

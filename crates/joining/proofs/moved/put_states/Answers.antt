@@ -25,5 +25,10 @@ pub loop-i-preserved : goal.loop-i-preserved
 loop-i-preserved c =
     lined_more (λ i. state_bytes (state_up c.args.by (state_at c.args.states.bytes.now i))) c.args.states.header.states c.args.buf.now c.args.at (omega (arith, lined-length 6 state_slots (state_up c.args.by) (state_at c.args.states.bytes.now) c.args.states.header.states, c.requires.room)) _ _ _ _ _ c.loop-i-test.true c.loop-i.invariant c.put_state-next.ensures
 
-pub returns : goal.returns
-returns c = read_as (lined state_bytes (state_up c.args.by) (state_at c.args.states.bytes.now) c.args.states.header.states) (lined_all c.loop-i.invariant (omega arith))
+pub returns-clause-put : goal.returns-clause-put
+returns-clause-put c = read_as (lined state_bytes (state_up c.args.by) (state_at c.args.states.bytes.now) c.args.states.header.states) (lined_all c.loop-i.invariant (omega arith))
+
+pub returns-clause-place : goal.returns-clause-place
+returns-clause-place c =
+    let all = lined_all c.loop-i.invariant (omega arith) in
+    omega (arith, all.next, lined-length 6 state_slots (state_up c.args.by) (state_at c.args.states.bytes.now) c.args.states.header.states)

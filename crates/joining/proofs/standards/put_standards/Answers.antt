@@ -39,5 +39,8 @@ pub loop-i-preserved : goal.loop-i-preserved
 loop-i-preserved c =
     merged_second (standard_at c.args.first.bytes.now c.args.first.header) c.args.first.header.standards (standard_at c.args.second.bytes.now c.args.second.header) c.args.second.header.standards c.args.by c.args.buf.now c.args.at c.requires.mergeable (standard_at c.args.first.bytes.now c.args.first.header c.loop-i.i) c.loop-i.i c.loop-i.j _ _ _ _ c.loop-i.invariant (rw c.if-first_is_next.false at c.first_is_next.ensures) c.put_standard-next-else-first_is_next.ensures
 
-pub returns : goal.returns
-returns c = merged_all (standard_at c.args.first.bytes.now c.args.first.header) c.args.first.header.standards (standard_at c.args.second.bytes.now c.args.second.header) c.args.second.header.standards c.args.by c.args.buf.now c.args.at c.requires.mergeable _ _ _ _ (omega arith) c.loop-i.invariant
+pub returns-clause-put : goal.returns-clause-put
+returns-clause-put c = merged_all (standard_at c.args.first.bytes.now c.args.first.header) c.args.first.header.standards (standard_at c.args.second.bytes.now c.args.second.header) c.args.second.header.standards c.args.by c.args.buf.now c.args.at c.requires.mergeable _ _ _ _ (omega arith) c.loop-i.invariant
+
+pub returns-clause-place : goal.returns-clause-place
+returns-clause-place c = omega (arith, merged_place (standard_at c.args.first.bytes.now c.args.first.header) c.args.first.header.standards (standard_at c.args.second.bytes.now c.args.second.header) c.args.second.header.standards c.args.by c.args.buf.now c.args.at _ _ _ _ c.loop-i.invariant, c.loop-i.invariant.first, c.loop-i.invariant.second)
