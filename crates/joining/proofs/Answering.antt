@@ -19,7 +19,7 @@ use Rattle.rules.specs.declared.LogList.TheVariants.{NoList}
 use Rattle.rules.specs.declared.Refusal.{Refusal}
 use Rattle.rules.specs.Grounds.{Verdict, ground, ◌then◌}
 use Rattle.rules.specs.Verdict.{verdict}
-use Rattle.rules.proofs.Given.{never, front_refused, front_put}
+use Rattle.rules.proofs.Given.{front_refused, front_put}
 use Rattle.sound.proofs.Encoded.{read}
 use Rattle.joining.specs.Joins.{of_second, join_grounds, joined_bytes, join_verdict, Joined, Joins}
 use Rattle.joining.specs.Parts.{InBounds}
@@ -35,7 +35,7 @@ in-bounds s e =
 module _ (s t b : List ℕ) where
   -- nothing is written
   refused : (x : Refusal) → join_verdict s t (length b) ≡ Err x → Joins s t b (Err x) b
-  refused x e = record { written = front_refused _ _ _ _ b x e (of-join s t (length b) x e); joined = λ n q. absurd (never n x (sym q)) }
+  refused x e = front_refused _ _ _ _ b x e (of-join s t (length b) x e)
 
   abbrev last : Verdict
   last = ground ShortBuffer NoList 0 (ltb (length b) (length (joined_bytes s t)))
@@ -75,7 +75,4 @@ module _ (s t b : List ℕ) where
         pub joined_put : length (joined_bytes s t) ≤ length b → (r : ℕ) (a : List ℕ) → Put (joined_bytes s t) b 0 r a → Joins s t b (Ok r) a
         joined_put fits r a p =
             let accepts : join_verdict s t (length b) ≡ Ok tt = from-room ∙ ap (ground ShortBuffer NoList 0) (le-ltb (length b) (length (joined_bytes s t)) fits) in
-            record {
-              written = front_put _ _ _ _ b accepts r (p.next ∙ zero-add (length (joined_bytes s t))) fits a (p.bytes ∙ written-front b (joined_bytes s t));
-              joined = λ n q. joined-log s t (read s first) (read t second) allowed;
-            }
+            front_put _ _ _ _ b accepts r (p.next ∙ zero-add (length (joined_bytes s t))) (fits, joined-log s t (read s first) (read t second) allowed) a (p.bytes ∙ written-front b (joined_bytes s t))

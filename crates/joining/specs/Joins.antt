@@ -82,6 +82,6 @@ pub record Joined (s t : List ℕ) : Type 0 where
   pub credits : CreditsKept (decode s) (decode t)
 
 -- the contract: the joined log's bytes at the front of the buffer, and what was behind them behind them
-pub record Joins (s t before : List ℕ) (r : Result ℕ Refusal) (after : List ℕ) : Type 0 where
-  pub written : FrontWritten (join_verdict s t (length before)) (joined_bytes s t) (λ n. n ≤ length before) (OfJoin s t (length before)) before r after
-  pub joined : (n : ℕ) → r ≡ Ok n → Joined s t
+abbrev pub Joins : List ℕ → List ℕ → List ℕ → Result ℕ Refusal → List ℕ → Type 0
+Joins s t before r after =
+    FrontWritten (join_verdict s t (length before)) (joined_bytes s t) (λ n. (n ≤ length before) × Joined s t) (OfJoin s t (length before)) before r after

@@ -29,5 +29,8 @@ pub use appendix::{print_supplemental, print_supplemental_words};
 pub use card::{explain, words_of};
 pub use printing::{Table, print_table, print_words};
 
+// One log of two consecutive ones.
+pub use joining::join_logs;
+
 // A log written record by record, and the test of what was written.
 pub use writing::{finish_log, put_header, put_standard, put_state, put_unit};

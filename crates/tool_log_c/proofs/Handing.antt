@@ -14,18 +14,17 @@ use Rattle.e79.specs.Doubles.{figures_of}
 use Rattle.e79.specs.Accuracy.{Accurate}
 use Rattle.rules.specs.declared.Refusal.{Refusal}
 use Rattle.rules.specs.Grounds.{Verdict}
-use Rattle.records.specs.Log.{Log, decode}
+use Rattle.records.specs.Log.{decode}
 use Rattle.rules.specs.Theoretical.{in_force}
 use Rattle.rules.specs.Verdict.{verdict_on}
-use Rattle.rules.specs.Answers.{answer_of, verdict_of, Given}
+use Rattle.rules.specs.Answers.{answer_of, verdict_of, Given, FrontWritten}
 use Rattle.rules.proofs.Given.{own_verdict}
 use Rattle.writing.specs.Writing.{Entry, Added}
 use Rattle.crediting.specs.declared.InForce.{InForce}
 use Rattle.crediting.specs.Calls.{in_force_of, StandardInForce}
-use Rattle.listing.specs.Listings.{TextWritten}
 use Rattle.telling.specs.Arrays.{refusal_of, ratios_of, bases_of}
 use Rattle.telling.specs.Told.{answer_or, found_flag, found_or, Told}
-use Rattle.tool_log_c.specs.Calls.{Promised, Tells, TellsNumbers, TellsDoubles, TellsAdding, TellsText, TellsInForce}
+use Rattle.tool_log_c.specs.Calls.{Promised, Tells, TellsNumbers, TellsDoubles, TellsAdding, TellsFront, TellsInForce}
 
 -- ---- every kind of answer
 
@@ -75,10 +74,10 @@ module _ {flag : ℕ} {refusal : List ℕ} where
       → MatchResult r (λ n. next ≡ n ∷ []) (λ x. next ≡ nextBefore) → TellsAdding e before at nextBefore flag after next refusal
   adding_told a nextBefore next t m = record { told = numbers_told a.given (λ n. n ∷ []) nextBefore next t m; bytes = a.bytes }
 
-  -- a text
-  pub text_told : {text : Log → List ℕ} {most : ℕ} {s before after : List ℕ} {r : Result ℕ Refusal} → TextWritten text most s before r after → (lengthBefore length : List ℕ) → Told (verdict_of r) flag refusal
-      → MatchResult r (λ n. length ≡ n ∷ []) (λ x. length ≡ lengthBefore) → TellsText text most s before lengthBefore flag after length refusal
-  text_told w lengthBefore length t m = record { told = numbers_told w.given (λ n. n ∷ []) lengthBefore length t m; bytes = w.bytes }
+  -- what is written to the front of a buffer
+  pub front_told : {v : Verdict} {content : List ℕ} {Promise : ℕ → Type 0} {Allowed : Refusal → Type 0} {before after : List ℕ} {r : Result ℕ Refusal} → FrontWritten v content Promise Allowed before r after → (lengthBefore length : List ℕ) → Told (verdict_of r) flag refusal
+      → MatchResult r (λ n. length ≡ n ∷ []) (λ x. length ≡ lengthBefore) → TellsFront v content Promise Allowed before lengthBefore flag after length refusal
+  front_told w lengthBefore length t m = record { told = numbers_told w.given (λ n. n ∷ []) lengthBefore length t m; bytes = w.bytes }
 
 -- what is found
 pub found_told : {s : List ℕ} {m recipe time : ℕ} {r : Result (Option InForce) Refusal} → StandardInForce s m recipe time r → (flag : ℕ) (before after refusal : List ℕ)
@@ -104,4 +103,4 @@ found_told {s} {m} {recipe} {time} g flag before after refusal q why e =
     held (Err x) o p = p
 
 -- for the check to try
-pub ruleset handing = (told_as, numbers_told, doubles_told, adding_told, text_told, found_told)
+pub ruleset handing = (told_as, numbers_told, doubles_told, adding_told, front_told, found_told)

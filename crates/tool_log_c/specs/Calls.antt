@@ -12,13 +12,15 @@ use Rattle.std.specs.declared.result.Result.TheVariants.{Ok, Err}
 use Rattle.rules.specs.Quantities.{all_times, module_times, tool_times, of_module, of_tool, times_of}
 use Rattle.rules.specs.Theoretical.{in_force}
 use Rattle.rules.specs.Credited.{credits_of}
+use Rattle.rules.specs.Answers.{written_by}
 use Rattle.rules.specs.Verdict.{verdict, verdict_on}
 use Rattle.losses.specs.Losses.{losses_of, shares_of, AddsUp}
 use Rattle.answering.specs.Calls.{OnModule}
 use Rattle.rules.specs.Refusals.{OfLog}
-use Rattle.reporting.specs.Reports.{verdict_for_text, verdict_for, ForText, ForRoom, text_written}
+use Rattle.reporting.specs.Reports.{verdict_for_text, verdict_for, ForText, ForRoom}
 use Rattle.crediting.specs.Calls.{AllCredited, in_force_of, Uses}
 use Rattle.listing.specs.Listings.{credit_listing}
+use Rattle.joining.specs.Joins.{join_verdict, joined_bytes, OfJoin, Joined}
 use Rattle.benchmarks.specs.Benchmarks.{benchmark_at, verdict_with}
 use Rattle.supplemental.specs.Supplemental.{supplemental_of, supplementals_of, AllRounded}
 use Rattle.supplemental.specs.Calls.{WithBenchmarks}
@@ -94,16 +96,23 @@ TellsSupplemental s b before r after refusal =
     let f = supplemental_of (decode s) (benchmark_at b) in
     TellsNumbers (verdict_with s b) (supplementals_of f) before (AllRounded (decode s) (benchmark_at b) f) (WithBenchmarks s b) r after refusal
 
--- ---- a text, or what is found
+-- ---- what is written to the front of a buffer, or what is found
 
--- the length of a text about a log, and all of the buffer's bytes
-pub record TellsText (text : Log → List ℕ) (most : ℕ) (s before lengthBefore : List ℕ) (r : ℕ) (after told_length refusal : List ℕ) : Type 0 where
-  pub told : TellsNumbers (verdict_for_text text s (length before)) (length (text (decode s)) ∷ []) lengthBefore ((length (text (decode s)) ≤ length before) × (length (text (decode s)) ≤ most)) (ForText text s (length before)) r told_length refusal
-  pub bytes : after ≡ text_written text s (length before) ++ drop (length (text_written text s (length before))) before
+-- the length of what is written to the front of the buffer, and all of the buffer's bytes
+pub record TellsFront (v : Verdict) (content : List ℕ) (Promise : ℕ → Type 0) (Allowed : Refusal → Type 0) (before lengthBefore : List ℕ) (r : ℕ) (after told_length refusal : List ℕ) : Type 0 where
+  pub told : TellsNumbers v (length content ∷ []) lengthBefore (Promise (length content)) Allowed r told_length refusal
+  pub bytes : after ≡ written_by v content ++ drop (length (written_by v content)) before
 
 -- the listing of credited units
 abbrev pub TellsCreditedListing : List ℕ → List ℕ → List ℕ → ℕ → List ℕ → List ℕ → List ℕ → Type 0
-TellsCreditedListing s before lengthBefore r after told_length refusal = TellsText credit_listing 7168 s before lengthBefore r after told_length refusal
+TellsCreditedListing s before lengthBefore r after told_length refusal =
+    let listing = credit_listing (decode s) in
+    TellsFront (verdict_for_text credit_listing s (length before)) listing (λ n. (n ≤ length before) × (n ≤ 7168)) (ForText credit_listing s (length before)) before lengthBefore r after told_length refusal
+
+-- the joined log
+abbrev pub TellsJoin : List ℕ → List ℕ → List ℕ → List ℕ → ℕ → List ℕ → List ℕ → List ℕ → Type 0
+TellsJoin s t before lengthBefore r after told_length refusal =
+    TellsFront (join_verdict s t (length before)) (joined_bytes s t) (λ n. (n ≤ length before) × Joined s t) (OfJoin s t (length before)) before lengthBefore r after told_length refusal
 
 -- index and time of the standard in force for a module, a recipe and a time
 pub record TellsInForce (s : List ℕ) (m recipe time : ℕ) (before : List ℕ) (r : ℕ) (after refusal : List ℕ) : Type 0 where

@@ -3,7 +3,7 @@
 #![tactic(auto, using(crate::proofs::Handing::handing))]
 
 ghost use Rattle.reporting.specs.Reports.{Written};
-ghost use Rattle.tool_log_c.specs.Calls.{TellsVerdict, TellsModuleTimes, TellsToolTimes, TellsModuleQuantities, TellsToolQuantities, TellsModuleFigures, TellsToolFigures, TellsModuleLosses, TellsToolLosses, TellsCreditedUnits, TellsCreditedListing, TellsInForce, TellsSupplemental, TellsAdding, TellsFinishing};
+ghost use Rattle.tool_log_c.specs.Calls.{TellsVerdict, TellsModuleTimes, TellsToolTimes, TellsModuleQuantities, TellsToolQuantities, TellsModuleFigures, TellsToolFigures, TellsModuleLosses, TellsToolLosses, TellsCreditedUnits, TellsCreditedListing, TellsJoin, TellsInForce, TellsSupplemental, TellsAdding, TellsFinishing};
 ghost use Rattle.writing.specs.Writing.{header_entry, state_entry, standard_entry, unit_entry};
 
 // ---- the verdict and the report
@@ -169,6 +169,22 @@ pub extern "C" fn tl_standard_in_force(
         standard,
         refusal,
     )
+}
+
+// ---- one log of two
+
+// Writes one log of two consecutive ones to the front of the buffer.
+#[unsafe(no_mangle)]
+pub extern "C" fn tl_join(
+    first: &[u8],
+    second: &[u8],
+    buf: &mut [u8],
+    length: &mut [u64; 1],
+    refusal: &mut [u64; 3],
+) -> u32
+    ensures { TellsJoin first.now second.now buf.old length.old result buf.new length.new refusal.new }
+{
+    telling::tell_position(tool_log::join_logs(first, second, buf), length, refusal)
 }
 
 // ---- supplemental figures
