@@ -1,6 +1,7 @@
 // A file written whole or not at all. No contract can speak of a file: what `replace` does to one is tried by the program `keep` in samples/check-saving.
 #![tactic(auto)]
 
+ghost use Rattle.std.specs.Prelude.{◌≤◌, length};
 ghost use Rattle.filling.specs.Buffer.{AtFront};
 ghost use Rattle.saving.specs.Names.{new_name};
 
@@ -64,4 +65,19 @@ pub fn replace(files: &impl Files, path: &[u8], bytes: &[u8]) -> Result<(), Repl
         .map_err(ReplaceError::NotWritten)?;
     or_removed(files, new, fill(file, bytes)).map_err(ReplaceError::NotWritten)?;
     or_removed(files, new, fs::rename(files, new, path)).map_err(ReplaceError::NotRenamed)
+}
+
+// The same. Where it is not done it says why, on standard error: of the new file, or of the one that the path names.
+pub fn save(files: &impl Files, err: &impl Print, path: &[u8], bytes: &[u8])
+    requires { length path.now ≤ 4096 }
+{
+    match replace(files, path, bytes) {
+        Ok(()) => {}
+        Err(ReplaceError::NotWritten(why)) => {
+            let mut name = [0u8; 4200];
+            let n = put_name(path, &mut name).min(4096);
+            saying::fail(err, &name[..n], &why);
+        }
+        Err(ReplaceError::NotRenamed(why)) => saying::fail(err, path, &why),
+    }
 }

@@ -1,14 +1,16 @@
-// One command for a log: its report, its state times, its quantities, its losses, the units credited to each standard, its supplemental figures, and what a
-// refusal means.
+// One command for a log: its report, its state times, its quantities, its losses, the units credited to each standard, its supplemental figures, one log of two, and
+// what a refusal means.
 // That a name is at most 4,096 bytes stands in four contracts: see `saying`.
 #![tactic(auto)]
 
 ghost use Rattle.std.specs.Prelude.{ℕ, ◌≤◌, length};
 
 use reading::Named;
+use reading::ENAMETOOLONG;
 use std::env::FillError;
+use std::io;
 use std::rt::Env;
-use tool_log::Table;
+use tool_log::{Refusal, Table};
 
 fn help(out: &impl Print) {
     let _ = out.write_all(
@@ -19,11 +21,13 @@ toollog quantities [LOG]              their total time, uptime, production time 
 toollog losses [LOG]                  what total time went to: availability, operational, rate and quality loss, and OEE, which make 1.0000\n\
 toollog credited [LOG]                the actual units credited to each standard: its index and its units, a line for each\n\
 toollog supplemental LOG BENCHMARKS   the four supplemental figures of the tool: reference, optimized, value-added, total effective units\n\
+toollog join FIRST SECOND RESULT      one log of two consecutive ones, into the file RESULT\n\
 toollog explain N                     what refusal N means, and what to look for\n\
 toollog help                          this text\n\
 \n\
 LOG is the name of a file. Left out, or -, it is standard input.\n\
 BENCHMARKS is the name of a file with 14 bytes for each standard of the log; - is standard input.\n\
+FIRST and SECOND are the names of files with logs; - is standard input. RESULT is the name of a file, which a refusal leaves as it was.\n\
 A refused log prints 'refused N list L at P', and why in words on standard error.\n",
     );
 }
@@ -166,6 +170,71 @@ fn supplemental(rt: HostRuntime) {
     }
 }
 
+// ---- one log of two
+
+// Prints why a join is refused. In words: of the first log or of the second, where that one is, and else of the log that they would make.
+fn refuse(rt: HostRuntime, first: Named, second: Named, path: &[u8], x: Refusal)
+    requires { length path.now ≤ 4096 }
+{
+    let mut space = [0u8; 80];
+    let size = report::put_refused_line(&mut space, x);
+    put_out(rt, &space[..size]);
+    if !print_words(rt, first) && !print_words(rt, second) {
+        complains(rt, path, |space| tool_log::words_of(x, space));
+    }
+}
+
+// Every joined log has at most 63,130 bytes.
+fn join_into(rt: HostRuntime, first: Named, second: Named, path: &[u8])
+    requires { length path.now ≤ 4096 }
+{
+    let mut space = [0u8; 63130];
+    match tool_log::join_logs(first.bytes, second.bytes, &mut space) {
+        Ok(size) => saving::save(&rt, &rt.stderr(), path, &space[..size]),
+        Err(x) => refuse(rt, first, second, path, x),
+    }
+}
+
+fn join_named(rt: HostRuntime, first: Named, second: Named) {
+    let mut path = [0u8; 4096];
+    match rt.arg(4, &mut path) {
+        Ok(n) => join_into(rt, first, second, &path[..n]),
+        Err(_) => saying::fail(
+            &rt.stderr(),
+            &path,
+            &io::Error::from_raw_os_error(ENAMETOOLONG),
+        ),
+    }
+}
+
+fn read_two(rt: HostRuntime) {
+    let mut name = [0u8; 4096];
+    let mut input = [0u8; 63131];
+    let Some(first) = reading::read_log(&rt, &rt.stderr(), 2, &mut name, &mut input) else {
+        return;
+    };
+    let mut other = [0u8; 4096];
+    let mut space = [0u8; 63131];
+    if let Some(second) = reading::read_log(&rt, &rt.stderr(), 3, &mut other, &mut space) {
+        join_named(rt, first, second);
+    }
+}
+
+fn join(rt: HostRuntime) {
+    if has_too_many(rt, 5) {
+        return;
+    }
+    if !has_argument(rt, 4) {
+        complain(rt, b"join", b"FIRST, SECOND and RESULT are needed\n");
+    } else if is_input(rt, 2) && is_input(rt, 3) {
+        complain(rt, b"join", b"standard input cannot be both\n");
+    } else if is_input(rt, 4) {
+        complain(rt, b"join", b"RESULT has to be the name of a file\n");
+    } else {
+        read_two(rt);
+    }
+}
+
 // ---- what a refusal means
 
 fn explain_number(rt: HostRuntime, text: &[u8], number: u64)
@@ -211,6 +280,7 @@ fn run(rt: HostRuntime, word: &[u8]) {
         b"losses" => answer(rt, |log| print_table(rt, Table::Losses, log)),
         b"credited" => answer(rt, |log| print_credited(rt, log)),
         b"supplemental" => supplemental(rt),
+        b"join" => join(rt),
         b"explain" => explain(rt),
         b"help" => {
             if !has_too_many(rt, 2) {
