@@ -1,6 +1,6 @@
 -- What the joining call answers, test by test.
 -- Assumes nothing.
-use mathlib.Core.Path.{◌≡◌, refl, sym, ap, ◌∙◌}
+use mathlib.Core.Path.{◌≡◌, refl, ap, ◌∙◌}
 use mathlib.Core.List.{List}
 use Prim.Native.Nat.{ℕ, ◌+◌, ◌-◌, ◌≤◌}
 use native.Mathlib.Nat.{zero-add}
@@ -12,7 +12,6 @@ use Rattle.std.specs.declared.result.Result.TheVariants.{Ok, Err}
 use Rattle.filling.specs.Buffer.{Put}
 use Rattle.filling.proofs.Written.{written-front}
 use Rattle.judging.proofs.Judging.{accepted_counts}
-use Rattle.records.specs.declared.Header.{Header}
 use Rattle.records.specs.Log.{header_of, decode}
 use Rattle.rules.specs.declared.Ground.TheVariants.{ShortBuffer}
 use Rattle.rules.specs.declared.LogList.TheVariants.{NoList}
@@ -21,7 +20,7 @@ use Rattle.rules.specs.Grounds.{Verdict, ground, ◌then◌}
 use Rattle.rules.specs.Verdict.{verdict}
 use Rattle.rules.proofs.Given.{front_refused, front_put}
 use Rattle.sound.proofs.Encoded.{read}
-use Rattle.joining.specs.Joins.{of_second, join_grounds, joined_bytes, join_verdict, Joined, Joins}
+use Rattle.joining.specs.Joins.{of_second, join_grounds, joined_bytes, join_verdict, Joins}
 use Rattle.joining.specs.Parts.{InBounds}
 use Rattle.joining.proofs.JoinedBytes.{joined-log, joined-size}
 use Rattle.joining.proofs.JoinRefusals.{of-join}

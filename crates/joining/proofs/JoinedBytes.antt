@@ -1,11 +1,11 @@
 -- What the joining call writes: the bytes of the joined log, which the reader accepts.
 -- Assumes nothing.
-use mathlib.Core.Path.{◌≡◌, refl, sym, ap, ◌∙◌}
+use mathlib.Core.Path.{◌≡◌, refl, sym, ◌∙◌}
 use mathlib.Core.Bool.{not}
-use mathlib.Core.List.{List, [], ◌∷◌, map}
-use Prim.Native.Nat.{ℕ, suc, ◌+◌, ◌*◌, ◌≤◌, ◌<◌}
+use mathlib.Core.List.{List, map}
+use Prim.Native.Nat.{ℕ, ◌+◌, ◌*◌}
 use native.Mathlib.Omega.{arith}
-use lib.Dec.{ltb, eqb}
+use lib.Dec.{eqb}
 use lib.ListN.{length, length-append}
 use borrow.Author.Tests.{eqb-true, not-false}
 use Rattle.records.specs.Log.{Log, decode}
@@ -17,7 +17,7 @@ use Rattle.rules.specs.Grounds.{Verdict}
 use Rattle.std.specs.declared.result.Result.TheVariants.{Ok, Err}
 use Rattle.rules.specs.Grounds.{ground, ◌then◌}
 use Rattle.rules.specs.Sequence.{standard_key}
-use Rattle.rules.specs.Verdict.{bad_period, bad_counts, verdict}
+use Rattle.rules.specs.Verdict.{bad_period, bad_counts}
 use Rattle.rules.proofs.FirstGround.{then-left, then-right, not-met, refused-not}
 use Rattle.rules.specs.Lists.{Each}
 use Rattle.rules.proofs.Each.{each-append, each-map}

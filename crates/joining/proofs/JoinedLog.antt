@@ -5,14 +5,13 @@ use mathlib.Core.Logic.{◌⊎◌, inl, inr}
 use mathlib.Core.Bool.{Bool, true, false, cond}
 use mathlib.Core.Option.{some}
 use mathlib.Core.List.{List, [], ◌∷◌, ◌++◌, map}
-use Prim.Native.Nat.{ℕ, ◌+◌, ◌≤◌, ◌<◌}
+use Prim.Native.Nat.{ℕ, ◌+◌, ◌<◌}
 use native.Mathlib.Omega.{arith}
 use lib.Dec.{eqb}
 use lib.ListN.{length}
 use Rattle.records.specs.declared.StateRecord.{StateRecord}
 use Rattle.records.specs.declared.UnitRecord.{UnitRecord}
 use Rattle.records.specs.Log.{Log}
-use Rattle.std.specs.declared.result.Result.TheVariants.{Ok, Err}
 use Rattle.rules.specs.Sequence.{state_key, standard_key, unit_key}
 use Rattle.rules.specs.Theoretical.{theoretical_time}
 use Rattle.rules.specs.RecordGrounds.{first_time, is_opening}
@@ -20,13 +19,11 @@ use Rattle.e79.specs.declared.Quantities.{Quantities}
 use Rattle.rules.specs.Names.{productive}
 use Rattle.rules.specs.Quantities.{sum_below, time_in, uptime, actual_time, effective_time, of_tool}
 use Rattle.rules.proofs.SumLaws.{sum_same, sum-add}
-use Rattle.rules.specs.Verdict.{record_grounds}
 use Rattle.rules.specs.Credited.{no_standard, nth, credited_to}
 use Rattle.rules.proofs.Booleans.{false-true}
 use Rattle.rules.specs.Lists.{Each, Before, Rises}
 use Rattle.rules.proofs.Each.{each-so, each-append, each-map, each-image, rises-append, rises-map}
 use Rattle.rules.specs.Sound.{StateSound, StandardSound, UnitSound, Sound}
-use Rattle.rules.proofs.Sound.{sound}
 use Rattle.sound.proofs.Force.{at-member, member-at, not-none}
 use Rattle.joining.specs.Joined.{state_up, standard_up, unit_up, joined_log, added, SumsAdded, IsOfFirst, IsOfSecond, CreditsKept}
 use Rattle.joining.proofs.Merging.{merged-each, merged-first, merged-second}

@@ -1,9 +1,9 @@
 -- How the joined log's bytes lie: the header, the first log's state records as they stand, the second's moved up, the standards of both merged, the first's unit
 -- records as they stand, the second's moved up. And what the two accepted logs give each part.
 -- Assumes nothing.
-use mathlib.Core.Path.{◌≡◌, refl, sym, ap, ◌∙◌, subst}
+use mathlib.Core.Path.{◌≡◌, sym, ap, ◌∙◌, subst}
 use mathlib.Core.Bool.{not}
-use mathlib.Core.List.{List, [], ◌∷◌, ◌++◌, map, append_assoc, append-nil}
+use mathlib.Core.List.{List, [], ◌∷◌, ◌++◌, map, append_assoc}
 use Prim.Native.Nat.{ℕ, zero, suc, ◌+◌, ◌*◌, ◌^◌, ◌≤◌, ◌<◌}
 use native.Mathlib.Decide.{ℕ_discrete}
 use native.Mathlib.Omega.{arith}
@@ -13,9 +13,8 @@ use lib.Seq.{take_at, drop_at}
 use Rattle.std.specs.declared.result.Result.TheVariants.{Ok}
 use Rattle.bits.specs.Put.{Fit}
 use Rattle.bits.proofs.Puts.{length-packed}
-use Rattle.judging.proofs.Judging.{Counted, accepted_counts}
 use Rattle.records.specs.declared.Header.{Header}
-use Rattle.records.specs.Encode.{header_slots, state_slots, standard_slots, header_bytes, state_bytes, standard_bytes, unit_bytes, joined, header_for, encode, LogFits}
+use Rattle.records.specs.Encode.{header_slots, state_slots, standard_slots, header_bytes, state_bytes, standard_bytes, unit_bytes, joined, header_for, encode}
 use Rattle.records.specs.Log.{Log, header_of, state_at, standard_at, unit_at, up_to, decode}
 use Rattle.records.proofs.RoundTrip.{joined-append, length_joined, encode-decode}
 use Rattle.records.proofs.UpTo.{length_up_to}
@@ -25,16 +24,13 @@ use Rattle.rules.specs.declared.LogList.TheVariants.{NoList}
 use Rattle.rules.specs.Grounds.{ground, ◌then◌}
 use Rattle.rules.specs.Lists.{Each}
 use Rattle.rules.specs.SameRecords.{Bytes}
-use Rattle.rules.specs.Sequence.{standard_key}
 use Rattle.rules.specs.Sound.{StateSound, StandardSound, UnitSound}
 use Rattle.rules.specs.Verdict.{bad_period, bad_counts, verdict}
 use Rattle.rules.proofs.Each.{each-left, each-right}
 use Rattle.rules.proofs.Risen.{risen, whole_length}
-use Rattle.sound.specs.Bounds.{Read}
 use Rattle.sound.proofs.Encoded.{read, fits}
-use Rattle.joining.specs.Joined.{state_up, standard_up, unit_up, joined_log}
+use Rattle.joining.specs.Joined.{state_up, unit_up, joined_log}
 use Rattle.joining.specs.Joins.{join_grounds, joined_bytes}
-use Rattle.joining.specs.Merged.{merged}
 use Rattle.joining.specs.Parts.{joined_header, header_verdict}
 use Rattle.joining.specs.Turns.{Mergeable}
 use Rattle.joining.proofs.JoinedBytes.{states-counted, standards-counted, units-counted, joined-length, joined-writable}

@@ -1,7 +1,7 @@
 -- The merging loop: what is written is the front of the merge, and what is left of both lists merges into the rest of it.
 -- Assumes nothing.
 use mathlib.Core.Path.{◌≡◌, refl, sym, ap, ◌∙◌}
-use mathlib.Core.Bool.{Bool, true, false}
+use mathlib.Core.Bool.{true, false}
 use mathlib.Core.List.{List, [], ◌∷◌, ◌++◌, map, append_assoc, append-nil}
 use Prim.Native.Nat.{ℕ, zero, suc, ◌+◌, ◌*◌, ◌/◌, ◌^◌, ◌≤◌, ◌<◌}
 use native.Mathlib.Nat.{zero-add}
@@ -11,7 +11,7 @@ use lib.Dec.{ltb}
 use lib.ListN.{length, get_or, drop, drop_of_length-le, length-append}
 use borrow.Author.Tests.{lt-ltb, ltb-true, ltb-false}
 use Rattle.bits.specs.Bits.{field}
-use Rattle.bits.proofs.Fields.{field_lt, field-split, front}
+use Rattle.bits.proofs.Fields.{field-split, front}
 use Rattle.filling.specs.Buffer.{Put}
 use Rattle.filling.proofs.Written.{then, read_as, put-nothing}
 use Rattle.records.specs.declared.Header.{Header}
@@ -136,7 +136,7 @@ module _ (a : ℕ → Standard) (n : ℕ) (b : ℕ → Standard) (k p : ℕ) (s 
       merged_first x h =
           let f = x.first refl in
           let e = take-first standard_key d (up_to a n) ss first-rises second-rises i j (rw (length_up_to a n) f.0)
-              (λ g. let l : j < k = rw second-length at g in rw (first-at f.0, second-at l) (f.1 l)) in
+          (λ g. let l : j < k = rw second-length at g in rw (first-at f.0, second-at l) (f.1 l)) in
           let same : standard_up 0 (a i) ≡ a i = λ y. record { «module» = (a i).«module»; recipe = (a i).recipe; start = zero-add (a i).start y; theoretical = (a i).theoretical; spare = (a i).spare } in
           record {
             done = w.done ++ (a i ∷ []);
@@ -151,7 +151,7 @@ module _ (a : ℕ → Standard) (n : ℕ) (b : ℕ → Standard) (k p : ℕ) (s 
       merged_second x h =
           let f = x.second refl in
           let e = take-second standard_key d (up_to a n) ss first-rises second-rises i j (rw second-length f.0)
-              (λ g. let l : i < n = rw (length_up_to a n) at g in rw (first-at l, second-at f.0) (f.1 l)) in
+          (λ g. let l : i < n = rw (length_up_to a n) at g in rw (first-at l, second-at f.0) (f.1 l)) in
           record {
             done = w.done ++ (standard_up p (b j) ∷ []);
             counted = length-append w.done (standard_up p (b j) ∷ []) ∙ omega (arith, w.counted);

@@ -1,6 +1,6 @@
 -- One log from two consecutive ones, and what is claimed of its sums.
 -- Definitions only.
-use Rattle.std.specs.Prelude.{◌≡◌, ◌⊎◌, ◌+◌, ◌<◌, ℕ, Bool, List, ◌++◌, length}
+use Rattle.std.specs.Prelude.{◌≡◌, ◌⊎◌, ◌+◌, ◌<◌, ℕ, Bool, ◌++◌, length}
 use mathlib.Core.List.{map}
 use Rattle.std.proofs.Math.Option.{Option}
 use Rattle.records.specs.declared.StateRecord.{StateRecord}
@@ -10,7 +10,7 @@ use Rattle.records.specs.Log.{Log}
 use Rattle.e79.specs.declared.Quantities.{Quantities}
 use Rattle.rules.specs.Sequence.{standard_key}
 use Rattle.rules.specs.Time.{code_at, count}
-use Rattle.rules.specs.Quantities.{time_in, of_module, of_tool}
+use Rattle.rules.specs.Quantities.{time_in, of_module}
 use Rattle.rules.specs.Credited.{nth, credited_to}
 use Rattle.joining.specs.Merged.{merged}
 

@@ -6,7 +6,7 @@ use Rattle.std.specs.declared.result.Result.TheVariants.{Ok, Err}
 use Rattle.records.specs.Log.{Log, decode}
 use Rattle.records.specs.Encode.{header_for, encode}
 use Rattle.rules.specs.declared.Refusal.{Refusal}
-use Rattle.rules.specs.declared.Ground.TheVariants.{Period, Modules, Counts, ShortBuffer, UnlikeTools}
+use Rattle.rules.specs.declared.Ground.TheVariants.{Period, Counts, ShortBuffer, UnlikeTools}
 use Rattle.rules.specs.declared.LogList.TheVariants.{NoList}
 use Rattle.rules.specs.Answers.{FrontWritten}
 use Rattle.rules.specs.Grounds.{Verdict, ground, refusal, ◌then◌}

@@ -1,6 +1,6 @@
 -- What the parts of the joining call promise one another.
 -- Definitions only.
-use Rattle.std.specs.Prelude.{◌+◌, ◌≤◌, ◌<◌, ℕ, not, eqb}
+use Rattle.std.specs.Prelude.{◌+◌, ◌≤◌, ◌<◌, not, eqb}
 use Rattle.records.specs.declared.Header.{Header}
 use Rattle.rules.specs.declared.Ground.TheVariants.{Period, Counts, UnlikeTools}
 use Rattle.rules.specs.declared.LogList.TheVariants.{NoList}

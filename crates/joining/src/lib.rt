@@ -79,7 +79,11 @@ fn put_log(buf: &mut [u8], a: WholeLog, b: WholeLog, h: Header) -> usize
 {
     let by = a.header.period;
     let first_states = put_header(buf, h);
-    let second_states = filling::put_text(buf, first_states, &a.bytes[10..10 + 6 * a.header.states]);
+    let second_states = filling::put_text(
+        buf,
+        first_states,
+        &a.bytes[10..10 + 6 * a.header.states],
+    );
     let standards = moved::put_states(buf, second_states, b.states(), by);
     let first_units = standards::put_standards(buf, standards, a.standards(), b.standards(), by);
     let second_units = filling::put_text(buf, first_units, &a.bytes[a.units().begin()..]);

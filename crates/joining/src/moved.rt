@@ -37,7 +37,13 @@ fn put_moved(buf: &mut [u8], at: usize, log: &[u8], from: usize, n: usize, by: u
 }
 
 // Standard i.
-pub fn put_standard(buf: &mut [u8], at: usize, standards: StandardRecords, i: usize, by: u64) -> usize
+pub fn put_standard(
+    buf: &mut [u8],
+    at: usize,
+    standards: StandardRecords,
+    i: usize,
+    by: u64,
+) -> usize
     requires index { i < standards.header.standards }
     requires room { at + 10 ≤ length buf.old }
     requires fits { by + (standard_at standards.bytes.now standards.header i).start < 2 ^ 35 }

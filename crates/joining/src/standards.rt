@@ -23,7 +23,13 @@ fn key(standards: StandardRecords, i: usize) -> u64
 }
 
 // Whether the first log's standard i is next, and not the second's j: that one is over, or its key, moved up, is above.
-fn first_is_next(first: StandardRecords, second: StandardRecords, i: usize, j: usize, by: u64) -> bool
+fn first_is_next(
+    first: StandardRecords,
+    second: StandardRecords,
+    i: usize,
+    j: usize,
+    by: u64,
+) -> bool
     requires left { Left first.header.standards second.header.standards i j }
     requires mergeable { Mergeable (standard_at first.bytes.now first.header) first.header.standards (standard_at second.bytes.now second.header) second.header.standards by }
     ensures { Next (standard_at first.entry.bytes.now first.entry.header) first.entry.header.standards (standard_at second.entry.bytes.now second.entry.header) second.entry.header.standards by i j result }
@@ -38,7 +44,13 @@ fn first_is_next(first: StandardRecords, second: StandardRecords, i: usize, j: u
 }
 
 // Writes the merge. The caller owes the room, and that the first's starts are before what the second's move by.
-pub fn put_standards(buf: &mut [u8], at: usize, first: StandardRecords, second: StandardRecords, by: u64) -> usize
+pub fn put_standards(
+    buf: &mut [u8],
+    at: usize,
+    first: StandardRecords,
+    second: StandardRecords,
+    by: u64,
+) -> usize
     requires room { at + 10 * (first.header.standards + second.header.standards) ≤ length buf.old }
     requires mergeable { Mergeable (standard_at first.bytes.now first.header) first.header.standards (standard_at second.bytes.now second.header) second.header.standards by }
     ensures place { result ≡ at + 10 * (first.entry.header.standards + second.entry.header.standards) }

@@ -1,8 +1,6 @@
 -- `joining::join_logs` meets its contract: each test in its turn, and then the bytes. Assumes nothing.
 use mathlib.Core.Path.{◌≡◌, sym, ◌∙◌}
-use Prim.Native.Nat.{◌≤◌}
 use native.Mathlib.Omega.{arith}
-use lib.ListN.{length}
 use borrow.Author.Tests.{ltb-false}
 use Rattle.std.specs.declared.result.Result.TheVariants.{Ok, Err}
 use Rattle.rules.specs.declared.Ground.TheVariants.{ShortBuffer}
@@ -10,7 +8,6 @@ use Rattle.rules.specs.declared.LogList.TheVariants.{NoList}
 use Rattle.rules.specs.Verdict.{verdict}
 use Rattle.rules.proofs.FirstGround.{not-met}
 use Rattle.rules.proofs.Given.{was_answered, was_refused}
-use Rattle.joining.specs.Joins.{joined_bytes}
 use Rattle.joining.specs.Parts.{header_verdict}
 use Rattle.joining.proofs.Answering.{in-bounds, first-refused, second-refused, both-refused, length-known, room-refused, joined_put}
 use Rattle.joining.proofs.Laid.{grounds-same}

@@ -1,19 +1,15 @@
 -- `joining::put_header` meets its contract: the five fields side by side are seven bytes and three. Assumes nothing.
-use mathlib.Core.Path.{◌≡◌, refl, sym}
-use Prim.Native.Nat.{◌+◌, ◌*◌, ◌/◌}
+use mathlib.Core.Path.{refl, sym}
+use Prim.Native.Nat.{◌+◌, ◌*◌}
 use native.Mathlib.Omega.{arith}
 use Rattle.filling.proofs.Numbers.{number-length}
-use Rattle.filling.proofs.Written.{then, read_as, put-length}
+use Rattle.filling.proofs.Written.{then, read_as}
 use Rattle.records.specs.Encode.{header_slots}
 use Rattle.writing.proofs.Bytes.{record-bytes}
 use Rattle.joining.proofs.put_header.Goals as goal
 
 pub put_number-requires : goal.put_number-requires
-put_number-requires c =
-    let h = c.args.h in
-    let seven = number-length 7 ((h.period * 128 + h.modules) * 16384 + h.states) in
-    let same = put-length c.put_number-middle.ensures (omega (arith, seven)) in
-    (omega (arith, same, seven, c.put_number-middle.ensures.next), omega arith)
+put_number-requires c = let next = rw number-length at c.put_number-middle.ensures.next in (omega (arith, next), omega arith)
 
 pub returns-clause-put : goal.returns-clause-put
 returns-clause-put c =
@@ -23,4 +19,7 @@ returns-clause-put c =
     read_as (sym bytes) ((then) c.put_number-middle.ensures c.put_number.ensures)
 
 pub returns-clause-place : goal.returns-clause-place
-returns-clause-place c = omega (arith, c.put_number-middle.ensures.next, c.put_number.ensures.next, number-length 7 ((c.args.h.period * 128 + c.args.h.modules) * 16384 + c.args.h.states), number-length 3 (c.args.h.standards * 8192 + c.args.h.units))
+returns-clause-place c =
+    let first = rw number-length at c.put_number-middle.ensures.next in
+    let second = rw number-length at c.put_number.ensures.next in
+    omega (arith, first, second)

@@ -1,8 +1,8 @@
 -- `joining::put_log` meets its contract: the six parts are put one behind the other. Assumes nothing.
-use mathlib.Core.Path.{◌≡◌, sym, ap, ◌∙◌}
-use Prim.Native.Nat.{◌+◌, ◌*◌, ◌-◌, ◌≤◌}
+use mathlib.Core.Path.{◌≡◌, sym}
+use Prim.Native.Nat.{◌+◌, ◌*◌, ◌-◌}
 use native.Mathlib.Omega.{arith}
-use lib.ListN.{length, take, drop, length-drop}
+use lib.ListN.{length, drop, length-drop}
 use lib.Seq.{length-take-le, take_all}
 use Rattle.filling.proofs.Written.{then, read_as}
 use Rattle.joining.proofs.Laid.{size, header-fit, states-fit, units-fit, mergeable, all-parts}

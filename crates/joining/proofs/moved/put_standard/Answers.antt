@@ -1,8 +1,7 @@
 -- `joining::moved::put_standard` meets its contract: the bytes are those of the record's number, moved up. Assumes nothing.
-use mathlib.Core.Path.{◌≡◌, sym, ap}
-use Prim.Native.Nat.{ℕ, ◌+◌, ◌*◌}
+use mathlib.Core.Path.{◌≡◌, sym}
+use Prim.Native.Nat.{◌+◌, ◌*◌}
 use native.Mathlib.Omega.{arith}
-use Rattle.bits.specs.Bits.{field}
 use Rattle.records.specs.Fields.{standard_from}
 use Rattle.filling.proofs.Written.{read_as}
 use Rattle.joining.proofs.MovedBytes.{standard-moved}

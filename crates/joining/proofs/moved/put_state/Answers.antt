@@ -1,6 +1,5 @@
 -- `joining::moved::put_state` meets its contract: the six bytes are those of the record's number, moved up. Assumes nothing.
 use mathlib.Core.Path.{sym}
-use native.Mathlib.Omega.{arith}
 use Rattle.filling.proofs.Written.{read_as}
 use Rattle.joining.proofs.MovedBytes.{state-moved}
 use Rattle.joining.proofs.moved.put_state.Goals as goal

@@ -1,5 +1,4 @@
 -- `joining::moved::put_states` meets its contract: each record is written behind those before it. Assumes nothing.
-use mathlib.Core.Path.{◌≡◌}
 use native.Mathlib.Omega.{arith}
 use Rattle.bits.proofs.Puts.{length-packed}
 use Rattle.filling.proofs.Written.{read_as}

@@ -1,5 +1,4 @@
 -- `joining::standards::key` meets its contract: the first 51 bits are module, recipe and start. Assumes nothing.
-use mathlib.Core.Path.{◌∙◌}
 use Rattle.joining.proofs.Turning.{key_read}
 use Rattle.joining.proofs.standards.key.Goals as goal
 

@@ -1,9 +1,6 @@
 -- `joining::standards::put_standards` meets its contract: at each turn the next of the two is written behind those before it. Assumes nothing.
-use mathlib.Core.Path.{◌≡◌, sym}
-use mathlib.Core.Bool.{true, false}
 use native.Mathlib.Omega.{arith}
 use Rattle.records.specs.Log.{standard_at}
-use Rattle.joining.specs.Turns.{Left, Next}
 use Rattle.joining.proofs.Turning.{standard-narrow, merged_none, merged_place, merged_first, merged_second, merged_all}
 use Rattle.joining.proofs.standards.put_standards.Goals as goal
 
