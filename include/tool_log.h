@@ -1,6 +1,6 @@
 /*
  * tool_log.h: the packed log of a semiconductor tool, answered: state times, the quantities, efficiencies, losses and supplemental figures of SEMI
- * E79, which standards its units were judged by, and the shift report; and written, record by record.
+ * E79, which standards its units were judged by, and the shift report; written, record by record; and joined from two consecutive ones.
  *
  * Link libtool_log_c.a (x86-64 Linux). It needs nothing but C's memcpy and memset.
  *
@@ -8,7 +8,8 @@
  * back, so threads may call it at the same time with arrays of their own. It uses less than 64 KiB of stack.
  *
  * What a function answers
- *   1  answered (tl_examine and tl_finish_log: accepted; tl_put_...: added). The answer's arrays are filled, and `refusal` becomes three zeros.
+ *   1  answered (tl_examine and tl_finish_log: accepted; tl_put_...: added; tl_join: joined). The answer's arrays are filled, and `refusal`
+ *      becomes three zeros.
  *   0  refused. `refusal` holds number, list and place, and every other array keeps its content.
  *   2  none is in force (tl_standard_in_force alone). `refusal` becomes three zeros, and every other array keeps its content.
  *   tl_report alone answers a length instead, and takes no `refusal`: tl_examine gives the reason.
@@ -16,8 +17,8 @@
  * What a caller can still do wrong
  *   - Pass a null pointer. None is taken, not even for a log, benchmarks or a buffer of 0 bytes.
  *   - Pass an array that is too small. Each has the size written in its parameter, which C does not enforce.
- *   - Pass a length beyond the end of the log, of the benchmarks or of the buffer.
- *   - Pass arrays that overlap one another, the log or the benchmarks, or change any of them from another thread during the call.
+ *   - Pass a length beyond the end of a log, of the benchmarks or of the buffer.
+ *   - Pass arrays that overlap one another, a log or the benchmarks, or change any of them from another thread during the call.
  *
  * Times are whole milliseconds (ms). A module is counted from 0. A log has 1 to 64 modules; asked for a module that an accepted log does not have,
  * a function refuses with number 7, list 0 and that module as place, so counting up until then visits every module.
@@ -34,7 +35,8 @@ extern "C" {
 
 /* The longest report, and so a `buf_len` that suffices for every log. */
 #define TL_LONGEST_REPORT 2494
-/* The longest log. TL_LONGEST_LOG + 1 bytes of a longer one are enough to decide that it is refused. */
+/* The longest log, and so a `buf_len` that suffices for every joined one. TL_LONGEST_LOG + 1 bytes of a longer one are enough to decide that it is
+ * refused. */
 #define TL_LONGEST_LOG 63130
 /* The benchmarks of 512 standards, the most that a log has. Of longer ones a byte more is enough too. */
 #define TL_LONGEST_BENCHMARKS 7168
@@ -88,17 +90,21 @@ enum { TL_REFERENCE, TL_OPTIMIZED, TL_VALUE_ADDED, TL_TOTAL_EFFECTIVE_UNITS, TL_
 /* Entries of `refusal`. */
 enum { TL_NUMBER, TL_LIST, TL_PLACE, TL_REFUSAL };
 
-/* What refusal[TL_LIST] says. X(list, name) */
+/* What refusal[TL_LIST] says, from 10 on of the second log of tl_join: its own list plus 10. X(list, name) */
 #define TL_LISTS(X) \
     X(0, "none") \
     X(1, "states") \
     X(2, "standards") \
     X(3, "units") \
-    X(4, "benchmarks")
+    X(4, "benchmarks") \
+    X(10, "second log") \
+    X(11, "second log's states") \
+    X(12, "second log's standards") \
+    X(13, "second log's units")
 
 /* What refusal[TL_NUMBER] says. X(number, trade word, ground)
- * refusal[TL_PLACE] is the record's or benchmark's index from 0 in its list, or the module for 11, 16 and a 7 with list 0; it is 0 for 1 to 5, 17, 18
- * and 22. */
+ * refusal[TL_PLACE] is the record's or benchmark's index from 0 in its list, or the module for 11 and 16, of either log, and for a 7 with list 0; it
+ * is 0 for 1 to 5, 17, 18, 22 and 23. */
 #define TL_REFUSALS(X) \
     X(1, "no header", "under 10 bytes") \
     X(2, "period", "0 or over 366 days (31,622,400,000 ms)") \
@@ -117,11 +123,12 @@ enum { TL_NUMBER, TL_LIST, TL_PLACE, TL_REFUSAL };
     X(15, "no standard", "none in force for a unit record") \
     X(16, "too fast", "a module's actual theoretical time above its production time") \
     X(17, "too great", "a tool sum above 9,007,199,254,740,991 ms") \
-    X(18, "short buffer", "report or listing longer than the buffer, or a record that does not fit at its position") \
+    X(18, "short buffer", "report, listing or log longer than the buffer, or a record that does not fit at its position") \
     X(19, "unsorted", "out of rising sequence: standards by module, recipe and start, units by time, module and recipe") \
     X(20, "above standard", "a time of a benchmark above its standard's theoretical time") \
     X(21, "over-counted", "total effective units of a benchmark above the effective units judged by its standard") \
-    X(22, "too wide", "a value does not fit its field")
+    X(22, "too wide", "a value does not fit its field") \
+    X(23, "unlike tools", "two logs to join whose module counts differ")
 
 enum {
     TL_NO_HEADER = 1,
@@ -145,7 +152,8 @@ enum {
     TL_UNSORTED,
     TL_ABOVE_STANDARD,
     TL_OVER_COUNTED,
-    TL_TOO_WIDE
+    TL_TOO_WIDE,
+    TL_UNLIKE_TOOLS
 };
 
 /*
@@ -278,6 +286,28 @@ uint32_t tl_put_unit(uint8_t *buf, size_t buf_len, size_t at, uint64_t module, u
  * `refusal`. Refused with 18: the position is past the buffer. With any other number: the log, as tl_examine refuses it.
  */
 uint32_t tl_finish_log(const uint8_t *buf, size_t buf_len, size_t at, uint64_t refusal[3]);
+
+/*
+ * Joins two consecutive logs of a tool. Writes the joined log to the front of `buf`, and how many bytes it has into length[0]: the two lengths added,
+ * less 10. The bytes of `buf` behind it keep their content.
+ * `first` is the earlier one. Its period is where the second begins: the second's times and starts move up by it, and the joined period is both. The
+ * first's states stand ahead of the second's, and so do its units; the standards of both are merged into their rising sequence, where a standard's
+ * index may be another. No record is left out, not even an opening state that goes on with the same code. A log does not say when its period was, so
+ * logs that are exchanged, or have a day between them, are joined too.
+ * The joined log is accepted. The state times and quantities of each module are the two logs' added, and each standard keeps its credited units.
+ *
+ * A `buf_len` of TL_LONGEST_LOG suffices. The buffer is apart from both logs, so three are joined with two buffers in turn; which two come first
+ * makes no difference to the bytes:
+ *
+ *     tl_join(monday, monday_len, tuesday, tuesday_len, two, TL_LONGEST_LOG, length, refusal)
+ *         && tl_join(two, length[0], wednesday, wednesday_len, three, TL_LONGEST_LOG, length, refusal)
+ *
+ * Refused where the first log is. Then where the second is, with its list plus 10: list 10 for its 0, and 11, 12 or 13 for its 1, 2 or 3. Then, with
+ * list 0 and place 0, 23: their module counts differ; 2: their periods are over 366 days together; 4: they have over 6,000 state records, 512 standards
+ * or 2,000 unit records together; 18: the joined log is longer than the buffer. A 2 or a 4 with list 0 may be the first log's own: tl_examine tells.
+ */
+uint32_t tl_join(const uint8_t *first, size_t first_len, const uint8_t *second, size_t second_len, uint8_t *buf, size_t buf_len, uint64_t length[1],
+                 uint64_t refusal[3]);
 
 #ifdef __cplusplus
 }
