@@ -16,6 +16,28 @@ static struct written all_added(struct written log, uint32_t added, uint64_t len
     return log;
 }
 
+struct written write_records(const struct records *r)
+{
+    struct written log = {{0}, 0};
+    uint64_t at[1] = {0}, refusal[3];
+    uint32_t added;
+
+    added = tl_put_header(log.bytes, sizeof log.bytes, at[0], r->period, r->modules, r->states, r->standards, r->units, at, refusal);
+    for (size_t i = 0; i < r->states; i++) {
+        const uint64_t *v = r->state[i];
+        added &= tl_put_state(log.bytes, sizeof log.bytes, at[0], v[0], v[1], v[2], at, refusal);
+    }
+    for (size_t i = 0; i < r->standards; i++) {
+        const uint64_t *v = r->standard[i];
+        added &= tl_put_standard(log.bytes, sizeof log.bytes, at[0], v[0], v[1], v[2], v[3], at, refusal);
+    }
+    for (size_t i = 0; i < r->units; i++) {
+        const uint64_t *v = r->unit[i];
+        added &= tl_put_unit(log.bytes, sizeof log.bytes, at[0], v[0], v[1], v[2], v[3], v[4], at, refusal);
+    }
+    return all_added(log, added, at[0]);
+}
+
 struct written write_case_w(uint64_t late)
 {
     static const uint64_t states[8][3] = {

@@ -10,6 +10,15 @@ struct written {
     size_t length;
 };
 
+/* States are module, code, time; standards module, recipe, start, theoretical time; units module, recipe, time, actual, effective. */
+struct records {
+    uint64_t period, modules;
+    size_t states, standards, units;
+    uint64_t state[12][3], standard[8][4], unit[8][5];
+};
+
+struct written write_records(const struct records *records);
+
 /* Three modules and a week, SEMI E79 R1-2. `late` is the time of its last unit record: 3,600,000, unless it is to be refused. */
 struct written write_case_w(uint64_t late);
 

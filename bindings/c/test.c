@@ -1,6 +1,7 @@
 /* Tests every function of tool_log.h: the reading ones on case W, a log with no uptime, standards of two modules, and bytes that are refused; the
  * losses on shares with equal remainders too; credited units and the standard in force on revisions; the supplemental figures on R1-3 and on
- * benchmarks with every fault; the writing ones on every width, on every position that matters, and on bytes worked out by hand. */
+ * benchmarks with every fault; the writing ones on every width, on every position that matters, and on bytes worked out by hand; joining on two days
+ * whose joined records are given, on logs at each bound and past it, and on every log that is refused here. */
 #include <inttypes.h>
 #include <math.h>
 #include <stdio.h>
@@ -138,6 +139,13 @@ static void refused(const uint8_t *bytes, size_t length, uint64_t number, uint64
     CHECK(tl_credited_units(log, length, units, why) == 0 && is(why, number, list, place));
     CHECK(tl_credited_listing(log, length, buf, TL_LONGEST_REPORT, listed, why) == 0 && is(why, number, list, place));
     CHECK(tl_credited_listing(log, length, buf, 0, listed, why) == 0 && is(why, number, list, place));
+    for (size_t room = 0; room <= TL_LONGEST_REPORT; room += TL_LONGEST_REPORT) {
+        CHECK(tl_join(log, length, week, sizeof week, buf, room, listed, why) == 0 && is(why, number, list, place));
+        CHECK(tl_join(log, length, week, 9, buf, room, listed, why) == 0 && is(why, number, list, place));
+        CHECK(tl_join(log, length, log, length, buf, room, listed, why) == 0 && is(why, number, list, place));
+        CHECK(tl_join(week, sizeof week, log, length, buf, room, listed, why) == 0 && is(why, number, list + 10, place));
+        CHECK(tl_join(week, 9, log, length, buf, room, listed, why) == 0 && is(why, TL_NO_HEADER, 0, 0));
+    }
     for (size_t n = 0; n < 15; n += 7)
         CHECK(supplemental(log, length, buf, n, four, why) == 0 && is(why, number, list, place));
 
@@ -673,6 +681,284 @@ static void no_standards(void)
     not_benchmarks(&log, r1_3, 14, TL_BAD_LENGTH, 0);
 }
 
+/* ---- joining */
+
+struct span {
+    const uint8_t *bytes;
+    size_t length;
+};
+
+static struct span all_of(const struct written *log)
+{
+    return (struct span){log->bytes, log->length};
+}
+
+/* A call on slices of just these lengths, which stay, with a buffer of this length that holds `fill`. Joined, with a number of 0, it has `due` at its
+ * front and nothing else changes. Refused with another number, list 0 and place 0, nothing changes. */
+static void joins(struct span first, struct span second, size_t room, unsigned char fill, uint64_t number, struct span due)
+{
+    uint8_t *lent_first = copied(first.bytes, first.length), *lent_second = copied(second.bytes, second.length), *buf = malloc(room ? room : 1);
+    uint64_t lent[3], why[5];
+    const size_t length = number ? 0 : due.length;
+
+    if (!buf)
+        abort();
+    memset(buf, fill, room);
+    memset(lent, fill, sizeof lent);
+    memset(why, fill, sizeof why);
+    CHECK(tl_join(lent_first, first.length, lent_second, second.length, buf, room, lent + 1, why + 1) == (number == 0));
+    CHECK(is(why + 1, number, 0, 0) && all(why, sizeof *why, fill) && all(why + 4, sizeof *why, fill));
+    CHECK(number ? all(lent, sizeof lent, fill) : lent[1] == length && all(lent, sizeof *lent, fill) && all(lent + 2, sizeof *lent, fill));
+    CHECK(!memcmp(buf, due.bytes, length) && all(buf + length, room - length, fill));
+    CHECK(!memcmp(lent_first, first.bytes, first.length) && !memcmp(lent_second, second.bytes, second.length));
+    free(buf);
+    free(lent_second);
+    free(lent_first);
+}
+
+/* The joined log in buffers that it fills and in longer ones. Shorter ones are refused. */
+static void joined_is(struct span first, struct span second, struct span due)
+{
+    const size_t length = due.length, rooms[9] = {0, 1, 10, first.length, length - 10, length - 1, length, length + 1, TL_LONGEST_LOG};
+    const unsigned char fills[3] = {0x00, 0xff, 0xa5};
+
+    CHECK(length == first.length + second.length - 10);
+    for (int n = 0; n < 3; n++) {
+        for (int i = 0; i < 9; i++)
+            joins(first, second, rooms[i], fills[n], rooms[i] < length ? TL_SHORT_BUFFER : 0, due);
+    }
+}
+
+/* Refused in a buffer that has room for every log, in one of just the length, and in one of 0 bytes. */
+static void not_joined(struct span first, struct span second, uint64_t number)
+{
+    const size_t rooms[3] = {TL_LONGEST_LOG, first.length + second.length - 10, 0};
+    for (int i = 0; i < 3; i++)
+        joins(first, second, rooms[i], 0xa5, number, first);
+}
+
+/* Each sum of the joined log is that of the first and that of the second, of every module and of the tool. */
+static void sums_are_added(struct span first, struct span second, struct span joined, size_t modules)
+{
+    const struct span logs[3] = {first, second, joined};
+    uint64_t times[3][6], quantities[3][5], why[3];
+
+    CHECK(tl_examine(joined.bytes, joined.length, TL_LONGEST_REPORT, why) == 1);
+    for (size_t m = 0; m <= modules; m++) {
+        for (int i = 0; i < 3; i++) {
+            if (m < modules) {
+                CHECK(tl_module_state_times(logs[i].bytes, logs[i].length, m, times[i], why) == 1);
+                CHECK(tl_module_quantities(logs[i].bytes, logs[i].length, m, quantities[i], why) == 1);
+            } else {
+                CHECK(tl_tool_state_times(logs[i].bytes, logs[i].length, times[i], why) == 1);
+                CHECK(tl_tool_quantities(logs[i].bytes, logs[i].length, quantities[i], why) == 1);
+            }
+        }
+        for (int i = 0; i < TL_TIMES; i++)
+            CHECK(times[2][i] == times[0][i] + times[1][i]);
+        for (int i = 0; i < TL_QUANTITIES; i++)
+            CHECK(quantities[2][i] == quantities[0][i] + quantities[1][i]);
+    }
+}
+
+/* A day of 1,000 ms and one of 2,000. Module 0 ends the first under repair, module 1 productive, and both begin the second so. Of recipe 3 of module 0
+ * both days have a standard at their start, the second's of the time that was in force before, and one of the second's starts is earlier in its day. */
+static const struct records day_1 = {
+    1000, 2, 6, 3, 3,
+    {{0, 0, 0}, {1, 7, 0}, {0, 12, 300}, {1, 3, 300}, {0, 0, 400}, {0, 18, 999}},
+    {{0, 3, 0, 5}, {0, 3, 500, 4}, {1, 3, 0, 6}},
+    {{0, 3, 250, 20, 15}, {0, 3, 999, 7, 0}, {1, 3, 999, 31, 30}},
+};
+static const struct records day_2 = {
+    2000, 2, 5, 5, 4,
+    {{0, 18, 0}, {1, 3, 0}, {0, 5, 1}, {1, 22, 1500}, {0, 7, 1999}},
+    {{0, 2, 0, 3}, {0, 3, 0, 4}, {0, 3, 100, 2}, {1, 3, 499, 6}, {1, 1023, 1, 7}},
+    {{0, 3, 0, 40, 40}, {0, 3, 99, 2, 1}, {0, 2, 100, 300, 0}, {1, 1023, 1999, 9, 8}},
+};
+static const struct records both_days = {
+    3000, 2, 11, 8, 7,
+    {{0, 0, 0}, {1, 7, 0}, {0, 12, 300}, {1, 3, 300}, {0, 0, 400}, {0, 18, 999},
+     {0, 18, 1000}, {1, 3, 1000}, {0, 5, 1001}, {1, 22, 2500}, {0, 7, 2999}},
+    {{0, 2, 1000, 3}, {0, 3, 0, 5}, {0, 3, 500, 4}, {0, 3, 1000, 4}, {0, 3, 1100, 2}, {1, 3, 0, 6}, {1, 3, 1499, 6}, {1, 1023, 1001, 7}},
+    {{0, 3, 250, 20, 15}, {0, 3, 999, 7, 0}, {1, 3, 999, 31, 30},
+     {0, 3, 1000, 40, 40}, {0, 3, 1099, 2, 1}, {0, 2, 1100, 300, 0}, {1, 1023, 2999, 9, 8}},
+};
+
+static void joined_days(void)
+{
+    const struct written one = write_records(&day_1), two = write_records(&day_2), both = write_records(&both_days);
+    const uint64_t of_one[3] = {20, 7, 31}, of_two[5] = {300, 42, 0, 0, 9}, of_both[8] = {300, 20, 7, 42, 0, 31, 0, 9};
+
+    joined_is(all_of(&one), all_of(&two), all_of(&both));
+    sums_are_added(all_of(&one), all_of(&two), all_of(&both), 2);
+    credited_are(&one, of_one, 3);
+    credited_are(&two, of_two, 5);
+    credited_are(&both, of_both, 8);
+}
+
+/* Two days that were not scheduled, by their bytes; and two weeks of case W, whose figures are those of one. */
+static void joined_to_itself(void)
+{
+    const uint8_t two_days[22] = {0x01, 0x49, 0x97, 0x00, 0x00, 0x40, 0x02, 0x00, 0x00, 0x00, 0x02, 0xc0, 0x00, 0x00, 0x00, 0x00,
+                                  0x02, 0xc0, 0x14, 0x99, 0x70, 0x00};
+    const struct written idle = write_idle();
+    uint8_t twice[2 * sizeof week - 10], printed[TL_LONGEST_REPORT];
+    uint64_t length[1], why[3];
+
+    joined_is(all_of(&idle), all_of(&idle), (struct span){two_days, sizeof two_days});
+    CHECK(tl_join(week, sizeof week, week, sizeof week, twice, sizeof twice, length, why) == 1 && length[0] == sizeof twice);
+    CHECK(tl_report(twice, sizeof twice, printed, sizeof printed) == 183 && !memcmp(printed, report, 183));
+    sums_are_added((struct span){week, sizeof week}, (struct span){week, sizeof week}, (struct span){twice, sizeof twice}, 3);
+}
+
+/* Three days: whichever two are joined first, the bytes are the same, and another sequence of the days makes others. */
+static void three_days(void)
+{
+    const struct written days[3] = {write_records(&day_1), write_records(&day_2), write_records(&both_days)};
+    const uint8_t *const a = days[0].bytes, *const b = days[1].bytes, *const c = days[2].bytes;
+    const size_t n = days[0].length, m = days[1].length, k = days[2].length;
+    uint8_t two[1024], front[1024], back[1024];
+    uint64_t length[1], why[3];
+
+    CHECK(tl_join(a, n, b, m, two, sizeof two, length, why) && tl_join(two, length[0], c, k, front, sizeof front, length, why));
+    CHECK(length[0] == n + m + k - 20);
+    CHECK(tl_join(b, m, c, k, two, sizeof two, length, why) && tl_join(a, n, two, length[0], back, sizeof back, length, why));
+    CHECK(length[0] == n + m + k - 20 && !memcmp(front, back, n + m + k - 20));
+    CHECK(tl_join(b, m, a, n, two, sizeof two, length, why) && tl_join(two, length[0], c, k, back, sizeof back, length, why));
+    CHECK(length[0] == n + m + k - 20 && memcmp(front, back, n + m + k - 20));
+}
+
+/* Logs with as many records as are asked for: the modules are productive all along, module 0 has a state record each ms and standards for recipes 0, 1,
+ * 2 and so on, and makes a unit of recipe 0 each ms. */
+struct counts {
+    uint64_t modules, period, states, standards, units;
+};
+
+/* Writes the log of such a period, or of several on end. */
+static struct span write_periods(uint8_t *buf, const struct counts periods[], size_t count)
+{
+    uint64_t sums[4] = {0}, at[1] = {0}, why[3], offset = 0;
+    uint32_t added;
+
+    for (size_t i = 0; i < count; i++) {
+        sums[0] += periods[i].period;
+        sums[1] += periods[i].states;
+        sums[2] += periods[i].standards;
+        sums[3] += periods[i].units;
+    }
+    added = tl_put_header(buf, TL_LONGEST_LOG, at[0], sums[0], periods[0].modules, sums[1], sums[2], sums[3], at, why);
+    for (size_t i = 0; i < count; offset += periods[i++].period) {
+        for (uint64_t m = 0; m < periods[i].modules; m++)
+            added &= tl_put_state(buf, TL_LONGEST_LOG, at[0], m, 0, offset, at, why);
+        for (uint64_t t = 1; t <= periods[i].states - periods[i].modules; t++)
+            added &= tl_put_state(buf, TL_LONGEST_LOG, at[0], 0, t % 2, offset + t, at, why);
+    }
+    for (uint64_t recipe = 0; recipe < TL_MOST_STANDARDS; recipe++) {
+        offset = 0;
+        for (size_t i = 0; i < count; offset += periods[i++].period) {
+            if (recipe < periods[i].standards)
+                added &= tl_put_standard(buf, TL_LONGEST_LOG, at[0], 0, recipe, offset, 1, at, why);
+        }
+    }
+    offset = 0;
+    for (size_t i = 0; i < count; offset += periods[i++].period) {
+        for (uint64_t t = 0; t < periods[i].units; t++)
+            added &= tl_put_unit(buf, TL_LONGEST_LOG, at[0], 0, 0, offset + t, 1, t % 2, at, why);
+    }
+    CHECK(added == 1);
+    return (struct span){buf, at[0]};
+}
+
+/* Each bound met just so and passed by one, by either log; sums of periods that their field does not hold; and several grounds at once, in the sequence
+ * 23, 2, 4, 18. */
+static void at_the_bounds(void)
+{
+    static const uint64_t longest = 31622400000, half = 15811200000;
+    const struct {
+        struct counts logs[2];
+        uint64_t number;
+    } rows[] = {
+        {{{1, half, 3000, 256, 1000}, {1, half, 3000, 256, 1000}}, 0},
+        {{{64, 5999, 5936, 511, 1999}, {64, 100, 64, 1, 1}}, 0},
+        {{{64, 5999, 64, 1, 1}, {64, 5999, 5936, 511, 1999}}, 0},
+        {{{1, longest - 1, 1, 0, 0}, {1, 1, 1, 0, 0}}, 0},
+        {{{1, 1, 1, 0, 0}, {1, longest - 1, 1, 512, 2000}}, 0},
+        /* 23 */
+        {{{2, 10, 2, 0, 0}, {1, 10, 1, 0, 0}}, TL_UNLIKE_TOOLS},
+        {{{1, 10, 1, 0, 0}, {2, 10, 2, 0, 0}}, TL_UNLIKE_TOOLS},
+        {{{64, 10, 64, 0, 0}, {63, 10, 63, 0, 0}}, TL_UNLIKE_TOOLS},
+        {{{1, longest, 6000, 512, 2000}, {2, longest, 6000, 512, 2000}}, TL_UNLIKE_TOOLS},
+        {{{2, longest, 2, 0, 0}, {1, longest, 1, 0, 0}}, TL_UNLIKE_TOOLS},
+        {{{2, 6000, 6000, 0, 0}, {1, 6000, 6000, 0, 0}}, TL_UNLIKE_TOOLS},
+        /* 2: the last three sums have 36 bits, and without the highest they are below the bound */
+        {{{1, longest, 1, 0, 0}, {1, 1, 1, 0, 0}}, TL_BAD_PERIOD},
+        {{{1, 1, 1, 0, 0}, {1, longest, 1, 0, 0}}, TL_BAD_PERIOD},
+        {{{1, half, 1, 0, 0}, {1, half + 1, 1, 0, 0}}, TL_BAD_PERIOD},
+        {{{1, half + 6000, 6000, 512, 2000}, {1, half, 6000, 512, 2000}}, TL_BAD_PERIOD},
+        {{{1, longest, 1, 0, 0}, {1, longest, 1, 0, 0}}, TL_BAD_PERIOD},
+        {{{1, longest, 6000, 512, 2000}, {1, longest, 6000, 512, 2000}}, TL_BAD_PERIOD},
+        {{{1, longest, 1, 0, 0}, {1, 2737338369, 1, 0, 0}}, TL_BAD_PERIOD},
+        /* 4 */
+        {{{1, 6000, 6000, 0, 0}, {1, 6000, 1, 0, 0}}, TL_BAD_COUNTS},
+        {{{1, 6000, 1, 0, 0}, {1, 6000, 6000, 0, 0}}, TL_BAD_COUNTS},
+        {{{1, 6000, 1, 512, 0}, {1, 6000, 1, 1, 0}}, TL_BAD_COUNTS},
+        {{{1, 6000, 1, 1, 0}, {1, 6000, 1, 512, 0}}, TL_BAD_COUNTS},
+        {{{1, 6000, 1, 1, 2000}, {1, 6000, 1, 1, 1}}, TL_BAD_COUNTS},
+        {{{1, 6000, 1, 1, 1}, {1, 6000, 1, 1, 2000}}, TL_BAD_COUNTS},
+        {{{1, half, 6000, 512, 2000}, {1, half, 6000, 512, 2000}}, TL_BAD_COUNTS},
+    };
+    static uint8_t first[TL_LONGEST_LOG], second[TL_LONGEST_LOG], joined[TL_LONGEST_LOG];
+
+    for (size_t i = 0; i < sizeof rows / sizeof *rows; i++) {
+        const struct span one = write_periods(first, rows[i].logs, 1), two = write_periods(second, rows[i].logs + 1, 1);
+        if (rows[i].number)
+            not_joined(one, two, rows[i].number);
+        else
+            joined_is(one, two, write_periods(joined, rows[i].logs, 2));
+    }
+    CHECK(write_periods(joined, rows[0].logs, 2).length == TL_LONGEST_LOG);
+}
+
+/* The second day with one value another, in every list and for every ground that a value can bring about, and with spare bits set. `refused` joins it as
+ * the first log and as the second, as it does every log. */
+static void faulty_days(void)
+{
+    static const struct {
+        int in;
+        size_t record, field;
+        uint64_t value, number, list, place;
+    } faults[] = {
+        {0, 0, 0, 0, TL_BAD_PERIOD, 0, 0},     {0, 0, 0, 31622400001, TL_BAD_PERIOD, 0, 0}, {0, 0, 1, 0, TL_BAD_MODULES, 0, 0},
+        {0, 0, 1, 65, TL_BAD_MODULES, 0, 0},   {0, 0, 1, 3, TL_NO_OPENING, 0, 2},           {0, 0, 1, 64, TL_NO_OPENING, 0, 2},
+        {1, 0, 0, 2, TL_STRAY_MODULE, 1, 0},   {1, 2, 1, 24, TL_STRAY_CODE, 1, 2},          {1, 4, 2, 2000, TL_OUTSIDE, 1, 4},
+        {1, 3, 2, 0, TL_SEQUENCE, 1, 3},       {1, 1, 0, 0, TL_SEQUENCE, 1, 1},             {2, 4, 0, 2, TL_STRAY_MODULE, 2, 4},
+        {2, 4, 2, 2000, TL_OUTSIDE, 2, 4},     {2, 0, 3, 0, TL_NO_TIME, 2, 0},              {2, 2, 2, 0, TL_TWICE, 2, 2},
+        {2, 0, 1, 4, TL_UNSORTED, 2, 1},       {3, 3, 0, 2, TL_STRAY_MODULE, 3, 3},         {3, 3, 2, 2000, TL_OUTSIDE, 3, 3},
+        {3, 1, 4, 3, TL_OVER_GOOD, 3, 1},      {3, 2, 1, 5, TL_NO_STANDARD, 3, 2},          {3, 2, 2, 98, TL_UNSORTED, 3, 2},
+        {3, 2, 3, 65535, TL_TOO_FAST, 0, 0},   {3, 3, 3, 215, TL_TOO_FAST, 0, 1},
+    };
+    const size_t at[4] = {10 + 5, 10 + 6 * 4 + 5, 10 + 6 * 5 + 10 * 2 + 9, 10 + 6 * 5 + 10 * 5 + 11 * 3 + 10};
+    const uint64_t lists[4] = {1, 1, 2, 3}, places[4] = {0, 4, 2, 3};
+    struct written log;
+
+    for (size_t i = 0; i < sizeof faults / sizeof *faults; i++) {
+        struct records day = day_2;
+        uint64_t *const values[4] = {faults[i].field ? &day.modules : &day.period, day.state[faults[i].record] + faults[i].field,
+                                     day.standard[faults[i].record] + faults[i].field, day.unit[faults[i].record] + faults[i].field};
+        *values[faults[i].in] = faults[i].value;
+        log = write_records(&day);
+        refused(log.bytes, log.length, faults[i].number, faults[i].list, faults[i].place);
+    }
+    for (int i = 0; i < 4; i++) {
+        log = write_records(&day_2);
+        log.bytes[at[i]] |= 1;
+        refused(log.bytes, log.length, TL_SPARE, lists[i], places[i]);
+    }
+    log = write_records(&day_2);
+    set_field(log.bytes, 42, 14, 6001);
+    refused(log.bytes, log.length, TL_BAD_COUNTS, 0, 0);
+}
+
 /* ---- writing */
 
 /* The adding calls by the list of their records: sizes in bytes, widths in bits. What is left of a record is spare. */
@@ -903,18 +1189,18 @@ static void finishing(void)
     CHECK(tl_finish_log(buf, sizeof buf, sizeof buf + 1, why) == 0 && is(why, TL_SHORT_BUFFER, 0, 0));
 }
 
-/* The header's tables: refusals from 1 on, and lists and states from 0 on, that count up. */
+/* The header's tables: refusals from 1 on, states from 0 on, and lists from 0 and from 10 on, that count up. */
 static void tables(void)
 {
 #define NUMBER(number, word, ground) number,
 #define ENTRY(entry, name) entry,
     const int numbers[] = {TL_REFUSALS(NUMBER)}, lists[] = {TL_LISTS(ENTRY)}, states[] = {TL_STATES(ENTRY)};
-    CHECK(sizeof numbers / sizeof *numbers == TL_TOO_WIDE && sizeof lists / sizeof *lists == 5 && sizeof states / sizeof *states == TL_TIMES);
-    CHECK(TL_TOO_WIDE == 22);
-    for (int i = 0; i < TL_TOO_WIDE; i++)
+    CHECK(sizeof numbers / sizeof *numbers == TL_UNLIKE_TOOLS && sizeof lists / sizeof *lists == 9 && sizeof states / sizeof *states == TL_TIMES);
+    CHECK(TL_UNLIKE_TOOLS == 23);
+    for (int i = 0; i < TL_UNLIKE_TOOLS; i++)
         CHECK(numbers[i] == i + 1);
-    for (int i = 0; i < 5; i++)
-        CHECK(lists[i] == i);
+    for (int i = 0; i < 9; i++)
+        CHECK(lists[i] == (i < 5 ? i : i + 5));
     for (int i = 0; i < TL_TIMES; i++)
         CHECK(states[i] == i);
 }
@@ -939,6 +1225,11 @@ int main(void)
     first_fault();
     of_all_modules();
     no_standards();
+    joined_days();
+    joined_to_itself();
+    three_days();
+    at_the_bounds();
+    faulty_days();
     damaged();
     random_bytes();
     printf("c: %u checks, %u failed\n", checks, failures);
