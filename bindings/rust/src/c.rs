@@ -84,4 +84,14 @@ extern "C" {
         refusal: *mut [u64; 3],
     ) -> u32;
     pub fn tl_finish_log(buf: *const u8, buf_len: usize, at: usize, refusal: *mut [u64; 3]) -> u32;
+    pub fn tl_join(
+        first: *const u8,
+        first_len: usize,
+        second: *const u8,
+        second_len: usize,
+        buf: *mut u8,
+        buf_len: usize,
+        length: *mut [u64; 1],
+        refusal: *mut [u64; 3],
+    ) -> u32;
 }

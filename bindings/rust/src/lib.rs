@@ -1,8 +1,8 @@
 //! The packed log of a semiconductor tool, answered: state times, the quantities, efficiencies, losses and supplemental figures of SEMI E79, which
-//! standards its units were judged by, and the shift report; and written.
+//! standards its units were judged by, and the shift report; written; and joined from two consecutive ones.
 //!
-//! Every function takes any bytes as a log, or as benchmarks, and answers or refuses. Times are whole milliseconds. A module is counted from 0. A [`Writer`] makes a
-//! log record by record.
+//! Every function takes any bytes as a log, or as benchmarks, and answers or refuses. Times are whole milliseconds. A module is counted from 0. A
+//! [`Writer`] makes a log record by record, and [`join_logs`] makes it of two logs.
 
 pub mod c;
 
@@ -43,12 +43,13 @@ pub enum Ground {
     AboveStandard,
     OverCounted,
     TooWide,
+    UnlikeTools,
 }
 
 use Ground::*;
 
 /// Each ground with its trade word and what it says, by number.
-pub const GROUNDS: [(Ground, &str, &str); 22] = [
+pub const GROUNDS: [(Ground, &str, &str); 23] = [
     (NoHeader, "no header", "under 10 bytes"),
     (Period, "period", "0 or over 366 days (31,622,400,000 ms)"),
     (Modules, "modules", "0 or over 64"),
@@ -66,22 +67,41 @@ pub const GROUNDS: [(Ground, &str, &str); 22] = [
     (NoStandard, "no standard", "none in force for a unit record"),
     (TooFast, "too fast", "a module's actual theoretical time above its production time"),
     (TooGreat, "too great", "a tool sum above 9,007,199,254,740,991 ms"),
-    (ShortBuffer, "short buffer", "report or listing longer than the buffer, or a record that does not fit at its position"),
+    (ShortBuffer, "short buffer", "report, listing or log longer than the buffer, or a record that does not fit at its position"),
     (Unsorted, "unsorted", "out of rising sequence: standards by module, recipe and start, units by time, module and recipe"),
     (AboveStandard, "above standard", "a time of a benchmark above its standard's theoretical time"),
     (OverCounted, "over-counted", "total effective units of a benchmark above the effective units judged by its standard"),
     (TooWide, "too wide", "a value does not fit its field"),
+    (UnlikeTools, "unlike tools", "two logs to join whose module counts differ"),
 ];
 
-/// The list that a refused record or benchmark stands in. The header is in none.
+/// The list that a refused record or benchmark stands in. The header is in none. The last four are those of the second of two logs to join, `Second`
+/// where its own refusal has none. The numbers are those of the refused line.
 #[derive(Clone, Copy, Debug, PartialEq, Eq, Hash)]
 pub enum List {
-    None,
+    None = 0,
     States,
     Standards,
     Units,
     Benchmarks,
+    Second = 10,
+    SecondStates,
+    SecondStandards,
+    SecondUnits,
 }
+
+/// Each list with its name, by number.
+pub const LISTS: [(List, &str); 9] = [
+    (List::None, "none"),
+    (List::States, "states"),
+    (List::Standards, "standards"),
+    (List::Units, "units"),
+    (List::Benchmarks, "benchmarks"),
+    (List::Second, "second log"),
+    (List::SecondStates, "second log's states"),
+    (List::SecondStandards, "second log's standards"),
+    (List::SecondUnits, "second log's units"),
+];
 
 /// A log, a benchmark or a record turned back: why, in which list, and at which place: the record's or benchmark's index from 0, or the module for
 /// `NoOpening`, `TooFast`, and a `StrayModule` with no list. For `TooWide` the place is 0, whichever record it is about.
@@ -97,10 +117,14 @@ fn row(number: u64) -> (Ground, &'static str, &'static str) {
     GROUNDS.into_iter().find(|row| row.0 as u64 == number).unwrap_or_else(|| panic!("the library's refusal {number} is not in GROUNDS"))
 }
 
+// The row of LISTS with this number.
+fn list_row(number: u64) -> (List, &'static str) {
+    LISTS.into_iter().find(|row| row.0 as u64 == number).unwrap_or_else(|| panic!("the library's list {number} is not in LISTS"))
+}
+
 impl Refusal {
     fn new([number, list, place]: [u64; 3]) -> Self {
-        let list = [List::None, List::States, List::Standards, List::Units, List::Benchmarks][list as usize];
-        Refusal { ground: row(number).0, list, place }
+        Refusal { ground: row(number).0, list: list_row(list).0, place }
     }
 }
 
@@ -108,15 +132,15 @@ impl fmt::Display for Refusal {
     fn fmt(&self, f: &mut fmt::Formatter) -> fmt::Result {
         let (ground, word, says) = row(self.ground as u64);
         write!(f, "refused: {} {word}: {says} ", ground as u8)?;
-        let list = match self.list {
-            List::None => "none",
-            List::States => "states",
-            List::Standards => "standards",
-            List::Units => "units",
-            List::Benchmarks if ground == Length => return write!(f, "(the benchmarks)"),
-            List::Benchmarks => return write!(f, "(benchmark {})", self.place),
-        };
-        write!(f, "(list {list}, place {})", self.place)
+        let (list, name) = list_row(self.list as u64);
+        match list {
+            List::None | List::States | List::Standards | List::Units => write!(f, "(list {name}, place {})", self.place),
+            List::Benchmarks if ground == Length => write!(f, "(the {name})"),
+            List::Benchmarks => write!(f, "(benchmark {})", self.place),
+            List::Second if ground == NoOpening || ground == TooFast => write!(f, "(module {} of the {name})", self.place),
+            List::Second => write!(f, "(the {name})"),
+            List::SecondStates | List::SecondStandards | List::SecondUnits => write!(f, "(record {} of the {name})", self.place),
+        }
     }
 }
 
@@ -360,6 +384,23 @@ pub fn finish_log(buf: &[u8], at: usize) -> Result<(), Refusal> {
     let mut refusal = [0; 3];
     let flag = unsafe { c::tl_finish_log(buf.as_ptr(), buf.len(), at, &mut refusal) };
     answered(flag, refusal, ())
+}
+
+/// Writes the joined log to the front of the buffer and hands that part back. Where either log is refused, the two are not to be joined, or the buffer
+/// is shorter, no byte changes.
+pub fn join_logs_into<'a>(first: &[u8], second: &[u8], buf: &'a mut [u8]) -> Result<&'a mut [u8], Refusal> {
+    let [length] = numbers(|length, refusal| unsafe {
+        c::tl_join(first.as_ptr(), first.len(), second.as_ptr(), second.len(), buf.as_mut_ptr(), buf.len(), length, refusal)
+    })?;
+    Ok(&mut buf[..length as usize])
+}
+
+/// One log of two consecutive ones of a tool, the earlier one first. The second's times and starts are moved up by the first's period, and no record
+/// of either is left out. The second's refusals have the lists from `Second` on; with no list, an `UnlikeTools`, `Period` or `Counts` may be that of
+/// both together.
+pub fn join_logs(first: &[u8], second: &[u8]) -> Result<Vec<u8>, Refusal> {
+    let mut buf = [0; LONGEST_LOG];
+    join_logs_into(first, second, &mut buf).map(|log| log.to_vec())
 }
 
 /// A log written record by record into a lent buffer: the header, then the states, standards and units that it counts, then `finish`.

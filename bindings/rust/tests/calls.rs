@@ -1,6 +1,6 @@
 //! Every call on logs packed here: case W, a log with no uptime, standards of two modules, and bytes that are refused; the losses on shares with
 //! equal remainders too; credited units and the standard in force on revisions; the supplemental figures on R1-3 and on benchmarks with every fault;
-//! and the writing ones on records packed here too.
+//! the writing ones on records packed here too; and joining on two days whose joined records are given, and on logs at each bound and past it.
 
 use tool_log::*;
 
@@ -187,6 +187,21 @@ fn turned_back(log: &[u8], ground: Ground, list: List, place: u64) {
     assert_eq!(tool_losses(log), Err(why));
     for length in [0, 7, 14] {
         assert_eq!(supplemental(log, &buf[..length]), Err(why));
+    }
+    let list = match list {
+        List::None => List::Second,
+        List::States => List::SecondStates,
+        List::Standards => List::SecondStandards,
+        List::Units => List::SecondUnits,
+        _ => panic!("{list:?} of a log"),
+    };
+    let no_header = Refusal { ground: Ground::NoHeader, list: List::None, place: 0 };
+    let (good, second) = (week(), Refusal { ground, list, place });
+    for (first, second, why) in [(log, &good[..], why), (log, &[], why), (log, log, why), (&good, log, second), (&[], log, no_header)] {
+        assert_eq!(join_logs(first, second), Err(why));
+        assert_eq!(join_logs_into(first, second, &mut buf), Err(why));
+        assert_eq!(join_logs_into(first, second, &mut buf[..0]), Err(why));
+        assert_eq!(buf, [0xa5; LONGEST_REPORT]);
     }
 }
 
@@ -517,7 +532,7 @@ fn words() {
     let why = report(&case_w(604800000)).unwrap_err();
     assert_eq!(why.to_string(), "refused: 9 outside: time or start at or past the period (list units, place 2)");
     let numbers: Vec<u8> = GROUNDS.into_iter().map(|row| row.0 as u8).collect();
-    assert_eq!(numbers, (1..=22).collect::<Vec<u8>>());
+    assert_eq!(numbers, (1..=23).collect::<Vec<u8>>());
     for (ground, word, says) in GROUNDS {
         let why = Refusal { ground, list: List::None, place: 0 };
         assert_eq!(why.to_string(), format!("refused: {} {word}: {says} (list none, place 0)", ground as u8));
@@ -528,6 +543,19 @@ fn words() {
         "refused: 5 length: bytes other than 10 + 6 states + 10 standards + 11 units; benchmarks: 14 for each standard (the benchmarks)"
     );
     assert_eq!(of_benchmarks(Ground::NoTime, 3), "refused: 12 no time: theoretical time 0, or a time of a benchmark 0 (benchmark 3)");
+    for (ground, list, place, whereabouts) in [
+        (Ground::NoHeader, List::Second, 0, "(the second log)"),
+        (Ground::Length, List::Second, 0, "(the second log)"),
+        (Ground::NoOpening, List::Second, 3, "(module 3 of the second log)"),
+        (Ground::TooFast, List::Second, 0, "(module 0 of the second log)"),
+        (Ground::Sequence, List::SecondStates, 5999, "(record 5999 of the second log's states)"),
+        (Ground::NoTime, List::SecondStandards, 0, "(record 0 of the second log's standards)"),
+        (Ground::Outside, List::SecondUnits, 1, "(record 1 of the second log's units)"),
+        (Ground::UnlikeTools, List::None, 0, "(list none, place 0)"),
+    ] {
+        let words = Refusal { ground, list, place }.to_string();
+        assert!(words.starts_with(&format!("refused: {} ", ground as u8)) && words.ends_with(whereabouts), "{words}");
+    }
 }
 
 #[test]
@@ -538,6 +566,9 @@ fn the_header_says_the_same() {
     }
     let rows = header.lines().filter(|line| line.starts_with("    X(") && line.matches('"').count() == 4);
     assert_eq!(rows.count(), GROUNDS.len());
+    let lists = header.split("#define TL_LISTS(X) ").nth(1).unwrap().lines().skip(1).take_while(|line| line.starts_with("    X("));
+    let due = LISTS.map(|(list, name)| format!("X({}, \"{name}\")", list as u8));
+    assert_eq!(lists.map(|line| line.trim_matches([' ', '\\'])).collect::<Vec<_>>(), due);
     for bound in [
         format!("LONGEST_REPORT {LONGEST_REPORT}"),
         format!("LONGEST_LOG {LONGEST_LOG}"),
@@ -793,4 +824,243 @@ fn a_log_not_finished() {
     assert_eq!(finish_log(&buf, 16), Ok(()));
     assert_eq!(&buf[..16], idle());
     assert_eq!(buf[16..], [0xa5; 48]);
+}
+
+// ---- joining
+
+// What a log says: period, modules, and its records as the fields that a writer takes.
+#[derive(Clone)]
+struct Records {
+    period: u64,
+    modules: u64,
+    lists: [Vec<Vec<u64>>; 3],
+}
+
+fn records<const S: usize, const T: usize, const U: usize>(
+    period: u64,
+    modules: u64,
+    states: [[u64; 3]; S],
+    standards: [[u64; 4]; T],
+    units: [[u64; 5]; U],
+) -> Records {
+    Records { period, modules, lists: [states.map(Vec::from).to_vec(), standards.map(Vec::from).to_vec(), units.map(Vec::from).to_vec()] }
+}
+
+impl Records {
+    fn log(&self) -> Vec<u8> {
+        let [states, standards, units] = [0, 1, 2].map(|list| self.lists[list].len() as u64);
+        let mut log = header(self.period, self.modules, states, standards, units);
+        for (kind, list) in (1..).zip(&self.lists) {
+            log.extend(list.iter().flat_map(|values| record(kind, values)));
+        }
+        log
+    }
+
+    // Both as one: the later ones' times, which stand third in each list, are moved up, and the standards sorted.
+    fn joined(&self, later: &Records) -> Records {
+        let mut both = self.clone();
+        both.period += later.period;
+        for (own, other) in both.lists.iter_mut().zip(&later.lists) {
+            for values in other {
+                let mut moved = values.clone();
+                moved[2] += self.period;
+                own.push(moved);
+            }
+        }
+        both.lists[1].sort();
+        both
+    }
+
+    // The modules are productive all along, module 0 has a state record each ms and standards for recipes 0, 1, 2 and so on, and makes a unit of recipe 0
+    // each ms.
+    fn of(modules: u64, period: u64, [states, standards, units]: [u64; 3]) -> Records {
+        let openings = (0..modules).map(|module| vec![module, 0, 0]);
+        let states = openings.chain((1..=states - modules).map(|time| vec![0, time % 2, time])).collect();
+        let standards = (0..standards).map(|recipe| vec![0, recipe, 0, 1]).collect();
+        Records { period, modules, lists: [states, standards, (0..units).map(|time| vec![0, 0, time, 1, time % 2]).collect()] }
+    }
+}
+
+// Module 0 ends the first day under repair, module 1 productive, and both begin the second so. Of recipe 3 of module 0 both days have a standard at
+// their start, the second's of the time that was in force before, and one of the second's starts is earlier in its day.
+fn day_1() -> Records {
+    records(
+        1000,
+        2,
+        [[0, 0, 0], [1, 7, 0], [0, 12, 300], [1, 3, 300], [0, 0, 400], [0, 18, 999]],
+        [[0, 3, 0, 5], [0, 3, 500, 4], [1, 3, 0, 6]],
+        [[0, 3, 250, 20, 15], [0, 3, 999, 7, 0], [1, 3, 999, 31, 30]],
+    )
+}
+
+fn day_2() -> Records {
+    records(
+        2000,
+        2,
+        [[0, 18, 0], [1, 3, 0], [0, 5, 1], [1, 22, 1500], [0, 7, 1999]],
+        [[0, 2, 0, 3], [0, 3, 0, 4], [0, 3, 100, 2], [1, 3, 499, 6], [1, 1023, 1, 7]],
+        [[0, 3, 0, 40, 40], [0, 3, 99, 2, 1], [0, 2, 100, 300, 0], [1, 1023, 1999, 9, 8]],
+    )
+}
+
+fn both_days() -> Records {
+    let [a, b, c, d, e, f] = [[0, 0, 0], [1, 7, 0], [0, 12, 300], [1, 3, 300], [0, 0, 400], [0, 18, 999]];
+    records(
+        3000,
+        2,
+        [a, b, c, d, e, f, [0, 18, 1000], [1, 3, 1000], [0, 5, 1001], [1, 22, 2500], [0, 7, 2999]],
+        [[0, 2, 1000, 3], [0, 3, 0, 5], [0, 3, 500, 4], [0, 3, 1000, 4], [0, 3, 1100, 2], [1, 3, 0, 6], [1, 3, 1499, 6], [1, 1023, 1001, 7]],
+        [
+            [0, 3, 250, 20, 15],
+            [0, 3, 999, 7, 0],
+            [1, 3, 999, 31, 30],
+            [0, 3, 1000, 40, 40],
+            [0, 3, 1099, 2, 1],
+            [0, 2, 1100, 300, 0],
+            [1, 1023, 2999, 9, 8],
+        ],
+    )
+}
+
+// The joined log in buffers that it fills, and in longer ones whose other bytes stay. Shorter ones are refused, and stay.
+fn joins(first: &[u8], second: &[u8], due: &[u8]) {
+    let length = due.len();
+    assert_eq!(length, first.len() + second.len() - 10);
+    assert!(join_logs(first, second).as_deref() == Ok(due));
+    for fill in [0x00, 0xff, 0xa5] {
+        for room in [0, 1, 10, first.len(), length - 1, length, length + 1, LONGEST_LOG] {
+            let (mut buf, mut left) = (vec![fill; room], vec![fill; room]);
+            let joined = join_logs_into(first, second, &mut buf).map(|log| log.len());
+            if room < length {
+                assert_eq!(joined, Err(SHORT));
+            } else {
+                assert_eq!(joined, Ok(length));
+                left[..length].copy_from_slice(due);
+            }
+            assert!(buf == left, "{room}");
+        }
+    }
+}
+
+#[test]
+fn joined_days() {
+    let (first, second, joined) = (day_1().log(), day_2().log(), both_days().log());
+    joins(&first, &second, &joined);
+    assert!(day_1().joined(&day_2()).log() == joined);
+    let three = [&first, &second, &first].map(|log| &log[..]);
+    let ahead = join_logs(&join_logs(three[0], three[1]).unwrap(), three[2]);
+    assert!(ahead.is_ok() && ahead == join_logs(three[0], &join_logs(three[1], three[2]).unwrap()));
+
+    // The sums are added, and each standard keeps its credited units.
+    let both = |first: u64, second: u64, joined: u64| assert_eq!(first + second, joined);
+    let logs = [&first, &second, &joined];
+    for m in 0..3 {
+        let [a, b, c] = logs.map(|log| if m < 2 { module_quantities(log, m) } else { tool_quantities(log) }.unwrap());
+        both(a.total, b.total, c.total);
+        both(a.uptime, b.uptime, c.uptime);
+        both(a.production, b.production, c.production);
+        both(a.actual, b.actual, c.actual);
+        both(a.effective, b.effective, c.effective);
+        let [a, b, c] = logs.map(|log| if m < 2 { module_state_times(log, m) } else { tool_state_times(log) }.unwrap());
+        both(a.productive, b.productive, c.productive);
+        both(a.standby, b.standby, c.standby);
+        both(a.engineering, b.engineering, c.engineering);
+        both(a.scheduled_down, b.scheduled_down, c.scheduled_down);
+        both(a.unscheduled_down, b.unscheduled_down, c.unscheduled_down);
+        both(a.nonscheduled, b.nonscheduled, c.nonscheduled);
+    }
+    assert_eq!(credited_units(&first).unwrap()[..3], [20, 7, 31]);
+    assert_eq!(credited_units(&second).unwrap()[..5], [300, 42, 0, 0, 9]);
+    assert_eq!(credited_units(&joined).unwrap()[..8], [300, 20, 7, 42, 0, 31, 0, 9]);
+}
+
+// Two days that were not scheduled, by their bytes; and two weeks of case W, whose figures are those of one.
+#[test]
+fn joined_to_itself() {
+    let two_days = [0x01, 0x49, 0x97, 0, 0, 0x40, 0x02, 0, 0, 0, 0x02, 0xc0, 0, 0, 0, 0, 0x02, 0xc0, 0x14, 0x99, 0x70, 0];
+    joins(&idle(), &idle(), &two_days);
+    let twice = join_logs(&week(), &week()).unwrap();
+    assert_eq!((twice.len(), report(&twice).as_deref()), (232, Ok(REPORT)));
+}
+
+const LONGEST: u64 = 31_622_400_000;
+
+#[test]
+fn joined_at_the_bounds() {
+    let half = LONGEST / 2;
+    for (first, second) in [
+        (Records::of(1, half, [3000, 256, 1000]), Records::of(1, half, [3000, 256, 1000])),
+        (Records::of(64, 5999, [5936, 511, 1999]), Records::of(64, 100, [64, 1, 1])),
+        (Records::of(64, 5999, [64, 1, 1]), Records::of(64, 5999, [5936, 511, 1999])),
+        (Records::of(1, LONGEST - 1, [1, 0, 0]), Records::of(1, 1, [1, 0, 0])),
+        (Records::of(1, 1, [1, 0, 0]), Records::of(1, LONGEST - 1, [1, 512, 2000])),
+    ] {
+        joins(&first.log(), &second.log(), &first.joined(&second).log());
+    }
+}
+
+// Each bound passed by one, by either log; sums of periods that their field does not hold; and several grounds at once, in the sequence 23, 2, 4, 18.
+#[test]
+fn not_joined() {
+    let half = LONGEST / 2;
+    let full = [6000, 512, 2000];
+    for (ground, first, second) in [
+        (Ground::UnlikeTools, Records::of(2, 10, [2, 0, 0]), Records::of(1, 10, [1, 0, 0])),
+        (Ground::UnlikeTools, Records::of(63, 10, [63, 0, 0]), Records::of(64, 10, [64, 0, 0])),
+        (Ground::UnlikeTools, Records::of(1, LONGEST, full), Records::of(2, LONGEST, full)),
+        (Ground::UnlikeTools, Records::of(1, LONGEST, [1, 0, 0]), Records::of(2, LONGEST, [2, 0, 0])),
+        (Ground::UnlikeTools, Records::of(1, 6000, full), Records::of(2, 6000, full)),
+        (Ground::Period, Records::of(1, LONGEST, [1, 0, 0]), Records::of(1, 1, [1, 0, 0])),
+        (Ground::Period, Records::of(1, half, [1, 0, 0]), Records::of(1, half + 1, [1, 0, 0])),
+        (Ground::Period, Records::of(1, LONGEST, [1, 0, 0]), Records::of(1, LONGEST, [1, 0, 0])),
+        (Ground::Period, Records::of(1, LONGEST, full), Records::of(1, LONGEST, full)),
+        (Ground::Period, Records::of(1, half + 6000, full), Records::of(1, half, full)),
+        (Ground::Period, Records::of(1, LONGEST, [1, 0, 0]), Records::of(1, (1 << 35) + 1 - LONGEST, [1, 0, 0])),
+        (Ground::Counts, Records::of(1, 6000, [6000, 0, 0]), Records::of(1, 6000, [1, 0, 0])),
+        (Ground::Counts, Records::of(1, 6000, [1, 0, 0]), Records::of(1, 6000, [6000, 0, 0])),
+        (Ground::Counts, Records::of(1, 6000, [1, 512, 0]), Records::of(1, 6000, [1, 1, 0])),
+        (Ground::Counts, Records::of(1, 6000, [1, 1, 0]), Records::of(1, 6000, [1, 512, 0])),
+        (Ground::Counts, Records::of(1, 6000, [1, 1, 2000]), Records::of(1, 6000, [1, 1, 1])),
+        (Ground::Counts, Records::of(1, 6000, [1, 1, 1]), Records::of(1, 6000, [1, 1, 2000])),
+        (Ground::Counts, Records::of(1, half, full), Records::of(1, half, full)),
+    ] {
+        let (first, second, why) = (first.log(), second.log(), Refusal { ground, list: List::None, place: 0 });
+        assert_eq!(join_logs(&first, &second), Err(why));
+        for room in [0, first.len() + second.len() - 10, LONGEST_LOG] {
+            let mut buf = vec![0xa5; room];
+            assert_eq!(join_logs_into(&first, &second, &mut buf), Err(why));
+            assert!(buf == vec![0xa5; room]);
+        }
+    }
+}
+
+// The second day with one value another, for every list and ground; `turned_back` joins it as the first log and as the second, as it does every log.
+#[test]
+fn faulty_days() {
+    let faulty = |change: fn(&mut Records), ground, list, place| {
+        let mut day = day_2();
+        change(&mut day);
+        turned_back(&day.log(), ground, list, place);
+    };
+    faulty(|day| day.period = 0, Ground::Period, List::None, 0);
+    faulty(|day| day.period = LONGEST + 1, Ground::Period, List::None, 0);
+    faulty(|day| day.modules = 65, Ground::Modules, List::None, 0);
+    faulty(|day| day.lists[0] = vec![vec![0, 0, 0]; 6001], Ground::Counts, List::None, 0);
+    faulty(|day| day.modules = 3, Ground::NoOpening, List::None, 2);
+    faulty(|day| day.lists[0][0][0] = 2, Ground::StrayModule, List::States, 0);
+    faulty(|day| day.lists[0][2][1] = 24, Ground::StrayCode, List::States, 2);
+    faulty(|day| day.lists[0][4][2] = 2000, Ground::Outside, List::States, 4);
+    faulty(|day| day.lists[0][3][2] = 0, Ground::Sequence, List::States, 3);
+    faulty(|day| day.lists[1][4][0] = 2, Ground::StrayModule, List::Standards, 4);
+    faulty(|day| day.lists[1][4][2] = 2000, Ground::Outside, List::Standards, 4);
+    faulty(|day| day.lists[1][0][3] = 0, Ground::NoTime, List::Standards, 0);
+    faulty(|day| day.lists[1][2][2] = 0, Ground::Twice, List::Standards, 2);
+    faulty(|day| day.lists[1][0][1] = 4, Ground::Unsorted, List::Standards, 1);
+    faulty(|day| day.lists[2][3][0] = 2, Ground::StrayModule, List::Units, 3);
+    faulty(|day| day.lists[2][3][2] = 2000, Ground::Outside, List::Units, 3);
+    faulty(|day| day.lists[2][1][4] = 3, Ground::OverGood, List::Units, 1);
+    faulty(|day| day.lists[2][2][1] = 5, Ground::NoStandard, List::Units, 2);
+    faulty(|day| day.lists[2][2][2] = 98, Ground::Unsorted, List::Units, 2);
+    faulty(|day| day.lists[2][2][3] = 65535, Ground::TooFast, List::None, 0);
+    faulty(|day| day.lists[2][3][3] = 215, Ground::TooFast, List::None, 1);
 }
