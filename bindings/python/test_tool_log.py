@@ -1,6 +1,7 @@
 """Tests tool_log.py on logs packed here: case W, a log with no uptime, standards of two modules, and bytes that are refused; the losses on all shares
 of short periods too, and their picture; credited units and the standard in force on revisions, and their table; the supplemental figures on R1-3 and
-on benchmarks with every fault; and its writer on what is packed here too."""
+on benchmarks with every fault; its writer on what is packed here too; and joining on two days whose joined records are given, on the samples, on
+random logs, and on logs at each bound and past it."""
 
 import enum
 import fractions
@@ -14,7 +15,8 @@ import xml.etree.ElementTree
 import revisions
 import tool_log
 from losses import PARTS, picture
-from tool_log import Figures, InForce, Losses, Quantities, Refused, StateTimes, Supplemental, Writer, pack_benchmarks, supplemental, write_log
+from tool_log import Figures, InForce, Losses, Quantities, Refused, StateTimes, Supplemental, Writer
+from tool_log import join_logs, join_logs_into, pack_benchmarks, supplemental, write_log
 
 ROOT = pathlib.Path(__file__).resolve().parent.parent.parent
 
@@ -142,6 +144,9 @@ CALLS = (
     lambda log: supplemental(log, b""),
     lambda log: supplemental(log, b"\xa5" * 7),
     lambda log: supplemental(log, b"\xa5" * 14),
+    lambda log: join_logs(log, case_w()),
+    lambda log: join_logs(log, b""),
+    lambda log: join_logs(log, log),
 )
 
 
@@ -160,7 +165,11 @@ class Calls(Case):
             self.refused(number, list, place, call, log)
         buffer = bytearray(b"\xa5" * tool_log.LONGEST_REPORT)
         self.refused(number, list, place, tool_log.report_into, log, buffer)
+        self.refused(number, list, place, join_logs_into, log, case_w(), buffer)
+        self.refused(number, list + 10, place, join_logs_into, case_w(), log, buffer)
+        self.refused(number, list + 10, place, join_logs_into, case_w(), log, bytearray())
         self.assertEqual(buffer, b"\xa5" * tool_log.LONGEST_REPORT)
+        self.refused(1, 0, 0, join_logs, b"", log)
 
     def test_report(self):
         log = case_w()
@@ -259,6 +268,8 @@ class Calls(Case):
         header = (ROOT / "include/tool_log.h").read_text()
         rows = {int(n): (word, ground) for n, word, ground in re.findall(r'X\((\d+), "([^"]*)", "([^"]*)"\)', header)}
         self.assertEqual(rows, tool_log.REFUSALS)
+        lists = re.search(r"#define TL_LISTS\(X\)((?: \\\n    X\(.*\))*)\n", header)[1]
+        self.assertEqual({int(n): name for n, name in re.findall(r'X\((\d+), "([^"]*)"\)', lists)}, tool_log.LISTS)
         self.assertIn(f"TL_LONGEST_REPORT {tool_log.LONGEST_REPORT}\n", header)
         self.assertIn(f"TL_LONGEST_LOG {tool_log.LONGEST_LOG}\n", header)
         self.assertIn(f"TL_LONGEST_BENCHMARKS {tool_log.LONGEST_BENCHMARKS}\n", header)
@@ -827,6 +838,227 @@ class Writing(Case):
         for name, log in accepted_samples():
             with self.subTest(name):
                 self.assertEqual(write_log(*decoded(log)), log)
+
+
+# Two days: period, modules, states, standards, units. Module 0 ends the first under repair, module 1 productive, and both begin the second so. Of
+# recipe 3 of module 0 both days have a standard at their start, the second's of the time that was in force before, and one of the second's starts is
+# earlier in its day.
+DAY_1 = (1000, 2, [(0, 0, 0), (1, 7, 0), (0, 12, 300), (1, 3, 300), (0, 0, 400), (0, 18, 999)], [(0, 3, 0, 5), (0, 3, 500, 4), (1, 3, 0, 6)],
+         [(0, 3, 250, 20, 15), (0, 3, 999, 7, 0), (1, 3, 999, 31, 30)])
+DAY_2 = (2000, 2, [(0, 18, 0), (1, 3, 0), (0, 5, 1), (1, 22, 1500), (0, 7, 1999)],
+         [(0, 2, 0, 3), (0, 3, 0, 4), (0, 3, 100, 2), (1, 3, 499, 6), (1, 1023, 1, 7)],
+         [(0, 3, 0, 40, 40), (0, 3, 99, 2, 1), (0, 2, 100, 300, 0), (1, 1023, 1999, 9, 8)])
+BOTH_DAYS = (3000, 2,
+             [(0, 0, 0), (1, 7, 0), (0, 12, 300), (1, 3, 300), (0, 0, 400), (0, 18, 999),
+              (0, 18, 1000), (1, 3, 1000), (0, 5, 1001), (1, 22, 2500), (0, 7, 2999)],
+             [(0, 2, 1000, 3), (0, 3, 0, 5), (0, 3, 500, 4), (0, 3, 1000, 4), (0, 3, 1100, 2), (1, 3, 0, 6), (1, 3, 1499, 6), (1, 1023, 1001, 7)],
+             [(0, 3, 250, 20, 15), (0, 3, 999, 7, 0), (1, 3, 999, 31, 30),
+              (0, 3, 1000, 40, 40), (0, 3, 1099, 2, 1), (0, 2, 1100, 300, 0), (1, 1023, 2999, 9, 8)])
+
+LONGEST_PERIOD = 31622400000
+
+
+def bytes_of(period, modules, states, standards, units):
+    records = [state(*s) for s in states] + [standard(*s) for s in standards] + [unit(*u) for u in units]
+    return header(period, modules, len(states), len(standards), len(units)) + b"".join(records)
+
+
+def joined(first, second):
+    """Two logs' records as those of one, or the number of the refusal."""
+    period, modules, *lists = first
+    later, others, *more = second
+    # A record's time is its third field in every list.
+    moved = ([(*record[:2], record[2] + period, *record[3:]) for record in records] for records in more)
+    states, standards, units = (own + other for own, other in zip(lists, moved))
+    if modules != others:
+        return 23
+    if period + later > LONGEST_PERIOD:
+        return 2
+    if len(states) > 6000 or len(standards) > 512 or len(units) > 2000:
+        return 4
+    return period + later, modules, states, sorted(standards), units
+
+
+def sums(log):
+    """All time and theoretical sums of each module, and at last of the tool."""
+    modules = range(tool_log.module_count(log))
+    times = [tool_log.module_state_times(log, m) for m in modules] + [tool_log.tool_state_times(log)]
+    quantities = [tool_log.module_quantities(log, m) for m in modules] + [tool_log.tool_quantities(log)]
+    return [list(vars(answer).values()) for answer in times + quantities]
+
+
+def credits(log):
+    """The credited units of each standard, by its module, recipe, start and time."""
+    return dict(zip(decoded(log)[3], tool_log.credited_units(log)))
+
+
+class Joining(Case):
+    def joins(self, first, second, due):
+        """The joined log in buffers that it fills, and in longer ones whose other bytes stay. Shorter ones are refused, and stay."""
+        self.assertEqual(join_logs(first, second), due)
+        self.assertEqual(len(due), len(first) + len(second) - 10)
+        for fill in (b"\x00", b"\xff", b"\xa5"):
+            for room in (0, 1, 10, len(first), len(due) - 1):
+                buffer = bytearray(fill * room)
+                self.refused(18, 0, 0, join_logs_into, first, second, buffer)
+                self.assertEqual(buffer, fill * room)
+            for more in (0, 1, 63130):
+                buffer = bytearray(fill * (len(due) + more))
+                self.assertEqual(join_logs_into(first, second, buffer), len(due))
+                self.assertEqual(buffer, due + fill * more)
+
+    def turned_back(self, first, second, number):
+        self.refused(number, 0, 0, join_logs, first, second)
+        for room in (0, len(first) + len(second) - 10, tool_log.LONGEST_LOG):
+            buffer = bytearray(b"\xa5" * room)
+            self.refused(number, 0, 0, join_logs_into, first, second, buffer)
+            self.assertEqual(buffer, b"\xa5" * room)
+
+    def joined_or_not(self, first, second):
+        """Two logs of these records are joined, or refused, as `joined` says, and their sums and credits are kept."""
+        due = joined(first, second)
+        first, second = bytes_of(*first), bytes_of(*second)
+        if isinstance(due, int):
+            return self.turned_back(first, second, due)
+        log = join_logs(first, second)
+        self.assertEqual(log, bytes_of(*due))
+        self.assertEqual(sums(log), [[a + b for a, b in zip(own, other)] for own, other in zip(sums(first), sums(second))])
+        period = decoded(first)[0]
+        moved = {(module, recipe, start + period, time): units for (module, recipe, start, time), units in credits(second).items()}
+        self.assertEqual(credits(log), {**credits(first), **moved})
+
+    def test_days(self):
+        first, second = bytes_of(*DAY_1), bytes_of(*DAY_2)
+        self.joins(first, second, bytes_of(*BOTH_DAYS))
+        self.joined_or_not(DAY_1, DAY_2)
+        self.assertEqual(tool_log.credited_units(first)[:3], (20, 7, 31))
+        self.assertEqual(tool_log.credited_units(second)[:5], (300, 42, 0, 0, 9))
+        self.assertEqual(tool_log.credited_units(join_logs(first, second))[:8], (300, 20, 7, 42, 0, 31, 0, 9))
+        self.assertIs(type(join_logs(first, second)), bytes)
+        self.assertEqual(join_logs(bytearray(first), memoryview(second)), join_logs(first, second))
+        self.assertEqual(join_logs(join_logs(first, second), first), join_logs(first, join_logs(second, first)))
+
+    def test_in_place(self):
+        # A log is copied first, so the buffer may be its own.
+        first, second = bytes_of(*DAY_1), bytes_of(*DAY_2)
+        buffer = bytearray(first + b"\xa5" * 1000)
+        length = join_logs_into(memoryview(buffer)[: len(first)], second, buffer)
+        self.assertEqual(buffer[:length], bytes_of(*BOTH_DAYS))
+        self.refused(2, 10, 0, join_logs_into, buffer[:length], header(0, 1, 0, 0, 0), buffer)
+        self.assertEqual(buffer[:length], bytes_of(*BOTH_DAYS))
+
+    def test_by_bytes(self):
+        due = bytes.fromhex("01499700004002000000 02c000000000 02c014997000")
+        self.joins(idle(), idle(), due)
+        twice = join_logs(case_w(), case_w())
+        self.assertEqual((len(twice), tool_log.report(twice)), (232, REPORT))
+
+    def test_samples(self):
+        logs = [(name, log, decoded(log)) for name, log in accepted_samples()]
+        for (name, first, own), (other, second, more) in itertools.product(logs, repeat=2):
+            with self.subTest(f"{name} and {other}"):
+                due = joined(own, more)
+                if isinstance(due, int):
+                    self.refused(due, 0, 0, join_logs, first, second)
+                else:
+                    self.assertEqual(join_logs(first, second), bytes_of(*due))
+
+    def test_random_logs(self):
+        source = random.Random(20261130)
+        for turn in range(300):
+            modules, pairs = source.choice((1, 2, 2, 3, 64)), [(source.randrange(3), source.choice((0, 3, 1023))) for _ in range(5)]
+            days = []
+            for _ in range(2):
+                period = source.choice((40, 1000, 1000000, LONGEST_PERIOD // 2, source.randrange(100, LONGEST_PERIOD)))
+                modules = modules if turn % 10 else source.choice((1, 2, 3))
+                times = sorted(source.randrange(1, period) for _ in range(source.choice((0, 5, 30))))
+                changes = {(time, source.randrange(modules)) for time in times}
+                states = [(m, 0, 0) for m in range(modules)] + [(m, source.randrange(24), time) for time, m in sorted(changes)]
+                keys = {(min(m, modules - 1), r, source.choice((0, 0, 5, period - 1, source.randrange(period)))) for m, r in pairs}
+                standards = [(*key, source.choice((1, 2, 3))) for key in sorted(keys)]
+                # Few units, so that all modules have the time for them: with none they have none.
+                made = {(source.choice((start, period - 1)), m, r): source.choice((0, 1)) for m, r, start, _ in standards}
+                units = [(m, r, time, made[time, m, r], source.randint(0, made[time, m, r])) for time, m, r in sorted(made)]
+                days.append((period, modules, states, standards, units))
+                try:
+                    tool_log.examine(bytes_of(*days[-1]))
+                except Refused:
+                    days[-1] = (period, modules, states, standards, [(*u[:3], 0, 0) for u in units])
+            self.joined_or_not(*days)
+
+    def test_bounds(self):
+        def log(modules, period, states, standards, units):
+            changes = [(m, 0, 0) for m in range(modules)] + [(0, time % 2, time) for time in range(1, states - modules + 1)]
+            return period, modules, changes, [(0, r, 0, 1) for r in range(standards)], [(0, 0, time, 1, time % 2) for time in range(units)]
+
+        half, full = LONGEST_PERIOD // 2, (6000, 512, 2000)
+        for due, first, second in (
+            (None, log(1, half, 3000, 256, 1000), log(1, half, 3000, 256, 1000)),
+            (None, log(64, 5999, 5936, 511, 1999), log(64, 100, 64, 1, 1)),
+            (None, log(64, 5999, 64, 1, 1), log(64, 5999, 5936, 511, 1999)),
+            (None, log(1, LONGEST_PERIOD - 1, 1, 0, 0), log(1, 1, 1, 0, 0)),
+            (None, log(1, 1, 1, 0, 0), log(1, LONGEST_PERIOD - 1, 1, 512, 2000)),
+            (23, log(2, 10, 2, 0, 0), log(1, 10, 1, 0, 0)),
+            (23, log(63, 10, 63, 0, 0), log(64, 10, 64, 0, 0)),
+            (23, log(1, LONGEST_PERIOD, *full), log(2, LONGEST_PERIOD, *full)),
+            (23, log(1, LONGEST_PERIOD, 1, 0, 0), log(2, LONGEST_PERIOD, 2, 0, 0)),
+            (23, log(1, 6000, *full), log(2, 6000, *full)),
+            # The last three sums have 36 bits, and without the highest they are below the bound.
+            (2, log(1, LONGEST_PERIOD, 1, 0, 0), log(1, 1, 1, 0, 0)),
+            (2, log(1, half, 1, 0, 0), log(1, half + 1, 1, 0, 0)),
+            (2, log(1, half + 6000, *full), log(1, half, *full)),
+            (2, log(1, LONGEST_PERIOD, 1, 0, 0), log(1, LONGEST_PERIOD, 1, 0, 0)),
+            (2, log(1, LONGEST_PERIOD, *full), log(1, LONGEST_PERIOD, *full)),
+            (2, log(1, LONGEST_PERIOD, 1, 0, 0), log(1, 2**35 + 1 - LONGEST_PERIOD, 1, 0, 0)),
+            (4, log(1, 6000, 6000, 0, 0), log(1, 6000, 1, 0, 0)),
+            (4, log(1, 6000, 1, 0, 0), log(1, 6000, 6000, 0, 0)),
+            (4, log(1, 6000, 1, 512, 0), log(1, 6000, 1, 1, 0)),
+            (4, log(1, 6000, 1, 1, 0), log(1, 6000, 1, 512, 0)),
+            (4, log(1, 6000, 1, 1, 2000), log(1, 6000, 1, 1, 1)),
+            (4, log(1, 6000, 1, 1, 1), log(1, 6000, 1, 1, 2000)),
+            (4, log(1, half, *full), log(1, half, *full)),
+        ):
+            if due:
+                self.turned_back(bytes_of(*first), bytes_of(*second), due)
+            else:
+                self.joins(bytes_of(*first), bytes_of(*second), bytes_of(*joined(first, second)))
+
+    def test_refused_second(self):
+        # The second day with one value another: list, record, field, value, and the refusal.
+        first = bytes_of(*DAY_1)
+        for list, record, field, value, *due in (
+            (0, 2, 1, 24, 8, 11, 2), (0, 4, 2, 2000, 9, 11, 4), (0, 3, 2, 0, 10, 11, 3), (0, 0, 0, 2, 7, 11, 0),
+            (1, 4, 0, 2, 7, 12, 4), (1, 4, 2, 2000, 9, 12, 4), (1, 0, 3, 0, 12, 12, 0), (1, 2, 2, 0, 13, 12, 2), (1, 0, 1, 4, 19, 12, 1),
+            (2, 3, 0, 2, 7, 13, 3), (2, 3, 2, 2000, 9, 13, 3), (2, 1, 4, 3, 14, 13, 1), (2, 2, 1, 5, 15, 13, 2), (2, 2, 2, 98, 19, 13, 2),
+            (2, 2, 3, 65535, 16, 10, 0), (2, 3, 3, 215, 16, 10, 1),
+        ):
+            period, modules, *lists = DAY_2
+            changed = [*lists[list][record][:field], value, *lists[list][record][field + 1 :]]
+            lists[list] = [*lists[list][:record], changed, *lists[list][record + 1 :]]
+            self.refused(*due, join_logs, first, bytes_of(period, modules, *lists))
+            # Its own number stays, and comes ahead of what both together would be refused for.
+            self.refused(*due, join_logs, idle(), bytes_of(period, modules, *lists))
+        self.refused(2, 10, 0, join_logs, first, bytes_of(0, *DAY_2[1:]))
+        self.refused(3, 10, 0, join_logs, first, bytes_of(DAY_2[0], 65, *DAY_2[2:]))
+        self.refused(4, 10, 0, join_logs, first, bytes_of(DAY_2[0], 2, [(0, 0, 0)] * 6001, [], []))
+        self.refused(11, 10, 2, join_logs, first, bytes_of(DAY_2[0], 3, *DAY_2[2:]))
+
+    def test_words(self):
+        for second, words in (
+            (b"", "1 no header: under 10 bytes (the second log)"),
+            (bytes_of(2000, 64, *DAY_2[2:]), "11 no opening: a module whose first record is not at time 0, or that has none (module 2 of the second log)"),
+            (bytes_of(*DAY_2[:4], [(1, 1023, 1, 65535, 0)]),
+             "16 too fast: a module's actual theoretical time above its production time (module 1 of the second log)"),
+            (bytes_of(2000, 2, [(0, 24, 0)], [], []), "8 stray code: sub-state code above 23 (record 0 of the second log's states)"),
+            (bytes_of(2000, 2, DAY_2[2], [(0, 3, 0, 1), (0, 3, 0, 1)], []),
+             "13 twice: module, recipe and start all equal to an earlier standard's (record 1 of the second log's standards)"),
+            (bytes_of(*DAY_2[:4], [(0, 3, 2000, 1, 1)]),
+             "9 outside: time or start at or past the period (record 0 of the second log's units)"),
+            (idle(), "23 unlike tools: two logs to join whose module counts differ (list none, place 0)"),
+        ):
+            with self.assertRaises(Refused) as caught:
+                join_logs(bytes_of(*DAY_1), second)
+            self.assertEqual(str(caught.exception), "refused: " + words)
 
 
 if __name__ == "__main__":

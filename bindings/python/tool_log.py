@@ -1,8 +1,9 @@
 """The packed log of a semiconductor tool, answered: state times, the quantities, efficiencies, losses and supplemental figures of SEMI E79, which
-standards its units were judged by, and the shift report; and written.
+standards its units were judged by, and the shift report; written; and joined from two consecutive ones.
 
 A log, and its benchmarks, are any bytes-like object. Each call answers numbers, text or bytes, or raises Refused. Times are whole milliseconds.
-A module is counted from 0. write_log makes a log of its records, Writer makes it record by record, and pack_benchmarks makes benchmarks.
+A module is counted from 0. write_log makes a log of its records, Writer makes it record by record, join_logs makes it of two logs, and
+pack_benchmarks makes benchmarks.
 The shared object libtool_log.so stands beside this file; the environment's TOOL_LOG_LIBRARY names another.
 """
 
@@ -18,8 +19,18 @@ LONGEST_BENCHMARKS = 7168
 CREDITED_LISTING_ROOM = 7168
 MOST_STANDARDS = 512
 
-# Which list a refusal's record or benchmark stands in.
-LISTS = ("none", "states", "standards", "units", "benchmarks")
+# Which list a refusal's record or benchmark stands in. From 10 on it is one of the second of two logs to join.
+LISTS = {
+    0: "none",
+    1: "states",
+    2: "standards",
+    3: "units",
+    4: "benchmarks",
+    10: "second log",
+    11: "second log's states",
+    12: "second log's standards",
+    13: "second log's units",
+}
 
 # Number: (trade word, ground).
 REFUSALS = {
@@ -40,20 +51,21 @@ REFUSALS = {
     15: ("no standard", "none in force for a unit record"),
     16: ("too fast", "a module's actual theoretical time above its production time"),
     17: ("too great", "a tool sum above 9,007,199,254,740,991 ms"),
-    18: ("short buffer", "report or listing longer than the buffer, or a record that does not fit at its position"),
+    18: ("short buffer", "report, listing or log longer than the buffer, or a record that does not fit at its position"),
     19: ("unsorted", "out of rising sequence: standards by module, recipe and start, units by time, module and recipe"),
     20: ("above standard", "a time of a benchmark above its standard's theoretical time"),
     21: ("over-counted", "total effective units of a benchmark above the effective units judged by its standard"),
     22: ("too wide", "a value does not fit its field"),
+    23: ("unlike tools", "two logs to join whose module counts differ"),
 }
 
 
 class Refused(Exception):
-    """A log, a benchmark or a record turned back: its number (1 to 22), list (0 none, 1 states, 2 standards, 3 units, 4 benchmarks), place, and the
-    words for them.
+    """A log, a benchmark or a record turned back: its number (1 to 23), list (0 none, 1 states, 2 standards, 3 units, 4 benchmarks), place, and the
+    words for them. For the second of two logs to join the list is 10 more: 10 to 13.
 
-    The place is the record's or benchmark's index from 0, or the module for 11, 16 and a 7 with list 0. It is 0 for 1 to 5, 17, 18 and 22, whichever
-    record a 22 is about; its list is 0 for the header.
+    The place is the record's or benchmark's index from 0, or the module for 11 and 16, of either log, and for a 7 with list 0. It is 0 for 1 to 5,
+    17, 18, 22 and 23, whichever record a 22 is about; its list is 0 for the header.
     """
 
     def __init__(self, number: int, list: int, place: int):
@@ -64,9 +76,12 @@ class Refused(Exception):
         super().__init__(number, list, place)
 
     def _whereabouts(self) -> str:
-        if LISTS[self.list] != "benchmarks":
-            return f"list {LISTS[self.list]}, place {self.place}"
-        return "the benchmarks" if self.number == 5 else f"benchmark {self.place}"
+        name = LISTS[self.list]
+        if name == "benchmarks":
+            return "the benchmarks" if self.number == 5 else f"benchmark {self.place}"
+        if name == "second log":
+            return f"module {self.place} of the second log" if self.number in (11, 16) else "the second log"
+        return f"record {self.place} of the {name}" if self.list > 10 else f"list {name}, place {self.place}"
 
     def __str__(self) -> str:
         return f"refused: {self.number} {self.word}: {self.ground} ({self._whereabouts()})"
@@ -173,6 +188,7 @@ _put_state = _function("tl_put_state", _u32, _size, _u64, _u64, _u64, _P(_Next),
 _put_standard = _function("tl_put_standard", _u32, _size, _u64, _u64, _u64, _u64, _P(_Next), _P(_Refusal))
 _put_unit = _function("tl_put_unit", _u32, _size, _u64, _u64, _u64, _u64, _u64, _P(_Next), _P(_Refusal))
 _finish_log = _function("tl_finish_log", _u32, _size, _P(_Refusal))
+_join = _function("tl_join", _u32, ctypes.c_char_p, _size, ctypes.c_char_p, _size, _P(_Length), _P(_Refusal))
 
 
 def _bytes(log) -> bytes:
@@ -407,3 +423,21 @@ def write_log(period: int, modules: int, states, standards, units) -> bytes:
     writer = Writer(10 + 6 * len(states) + 10 * len(standards) + 11 * len(units))
     writer.records(period, modules, states, standards, units)
     return writer.finish()
+
+
+# ---- one log from two
+
+
+def join_logs_into(first, second, buffer: bytearray) -> int:
+    """Writes the joined log to the front of the buffer and returns its length. Where either log is refused, the two are not to be joined, or the buffer
+    is shorter, no byte changes. The buffer may be that of a log."""
+    second, length = _bytes(second), _Length()
+    _ask(_join, first, second, len(second), _lent(buffer), len(buffer), ctypes.byref(length))
+    return length[0]
+
+
+def join_logs(first, second) -> bytes:
+    """One log of two consecutive ones of a tool, the earlier one first. The second's times and starts are moved up by the first's period, and no record
+    of either is left out. The second's refusals have 10 to 13 as list; with list 0, a 23, 2 or 4 may be that of both together."""
+    buffer = bytearray(LONGEST_LOG)
+    return bytes(buffer[: join_logs_into(first, second, buffer)])

@@ -1,0 +1,41 @@
+"""One log from consecutive ones: week.py RESULT LOG LOG.. Exit status: 0 joined, 1 refused, 2 too few names.
+
+Joins the logs in this sequence, writes the joined log to the file RESULT and prints its report; or prints the refusal in words, behind the name of the
+log that it is about, and leaves RESULT alone. Where the logs so far are not to be joined with the next one, that is the next one's name.
+"""
+
+import os
+import sys
+
+import tool_log
+from reading import read
+
+
+def save(path, log):
+    """Writes a file whole or not at all: a new one beside it, which then takes its name."""
+    beside = path + ".new"
+    with open(beside, "wb") as f:
+        f.write(log)
+    os.replace(beside, path)
+
+
+def main():
+    if len(sys.argv) < 4:
+        print("usage: week.py RESULT LOG LOG..", file=sys.stderr)
+        return 2
+    result, name, *others = sys.argv[1:]
+    joined = read(name, tool_log.LONGEST_LOG)
+    try:
+        tool_log.examine(joined)
+        for name in others:
+            joined = tool_log.join_logs(joined, read(name, tool_log.LONGEST_LOG))
+    except tool_log.Refused as refused:
+        print(f"{name}: {refused}")
+        return 1
+    save(result, joined)
+    print(tool_log.report(joined), end="")
+    return 0
+
+
+if __name__ == "__main__":
+    sys.exit(main())
