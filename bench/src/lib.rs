@@ -1,5 +1,6 @@
-//! Plain Rust programs that make a whole report or write a log, to measure the library against.
+//! Plain Rust programs that make a whole report, write a log or join two, to measure the library against.
 
+pub mod joining;
 pub mod logs;
 mod parts;
 pub mod sorted;

@@ -37,6 +37,32 @@ pub fn variants() -> Vec<Variant> {
     ]
 }
 
+/// Two consecutive logs of half the longest period, as long as the longest together: in each of them four revisions of one
+/// recipe at each module, every unit behind the last.
+pub fn halves() -> [Vec<u8>; 2] {
+    let rng = &mut Prng::new(5, 0);
+    [0, 1].map(|_| {
+        let mut draft = Draft {
+            period: LONGEST_PERIOD / 2,
+            modules: MOST_MODULES,
+            ..Draft::default()
+        };
+        state_records(rng, &mut draft, MOST_STATES / 2);
+        for standard in 0..MOST_STANDARDS / 2 {
+            let (module, revision) = (standard / 4, standard % 4);
+            let start = revision * 64_000_000 + module * 1_000_000;
+            draft.standard(module, 7, start, rng.between(50_000, 200_000));
+        }
+        for _ in 0..MOST_UNITS / 2 {
+            let time = rng.between(256 * 1_000_000, draft.period - 1);
+            let module = rng.below(MOST_MODULES);
+            unit(rng, &mut draft, module, 7, time);
+        }
+        draft.sort();
+        draft.bytes()
+    })
+}
+
 /// State records by time; the modules open productive and are productive most of the time.
 fn state_records(rng: &mut Prng, draft: &mut Draft, count: u64) {
     (0..draft.modules).for_each(|module| draft.state(module, 0, 0));

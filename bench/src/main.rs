@@ -1,15 +1,16 @@
 //! Measures a whole report (verdict and bytes) of each log: the library, (a) the plain program that
 //! walks the standards and (b) the best by hand; then the supplemental figures of each log: the
-//! library alone; then the longest log written call by call: the library and by hand. Each time is
-//! the best of many repetitions.
+//! library alone; then the longest log written call by call, and joined from two halves: the library
+//! and by hand. Each time is the best of many repetitions.
 
-use bench::logs::{variants, Variant};
+use bench::joining;
+use bench::logs::{halves, variants, Variant};
 use bench::writing::{Calls, BY_HAND};
 use bench::{sorted, walk};
 use difftest::draft::packed;
 use difftest::library;
 use difftest::oracle::read;
-use difftest::records::{Benchmark, Standard};
+use difftest::records::{Benchmark, Refusal, Standard};
 use std::hint::black_box;
 use std::process::ExitCode;
 use std::time::{Duration, Instant};
@@ -38,7 +39,7 @@ const LIBRARY: Calls = Calls {
 };
 
 fn main() -> ExitCode {
-    if reports() && supplemental() && writing() {
+    if reports() && supplemental() && writing() && joining() {
         ExitCode::SUCCESS
     } else {
         ExitCode::FAILURE
@@ -127,6 +128,88 @@ fn writing() -> bool {
     );
     println!("{:<33} {finishing:>8.2}", "finishing it");
     true
+}
+
+/// A joined log's length, or the refusal.
+type Join = fn(&[u8], &[u8], &mut [u8]) -> Result<usize, Refusal>;
+
+const JOINS: [Join; 2] = [join, joining::join];
+
+fn join(first: &[u8], second: &[u8], buffer: &mut [u8]) -> Result<usize, Refusal> {
+    let (mut length, mut refusal) = ([0], [0; 3]);
+    let answered = unsafe {
+        c::tl_join(
+            first.as_ptr(),
+            first.len(),
+            second.as_ptr(),
+            second.len(),
+            buffer.as_mut_ptr(),
+            buffer.len(),
+            &mut length,
+            &mut refusal,
+        )
+    };
+    let [number, list, place] = refusal;
+    match answered {
+        1 => Ok(length[0] as usize),
+        _ => Err(Refusal {
+            number,
+            list,
+            place,
+        }),
+    }
+}
+
+/// A row for the longest log joined from two halves; whether the programs answer alike.
+fn joining() -> bool {
+    let [first, second] = halves();
+    let mut buffer = vec![0; first.len() + second.len() - 10];
+    if !join_alike(&first, &second) {
+        println!("two halves: the programs do not join them alike");
+        return false;
+    }
+    let joins = JOINS.map(|join| {
+        let (first, second) = (&first, &second);
+        move |buffer: &mut [u8]| join(black_box(first), black_box(second), buffer).unwrap_or(0)
+    });
+    let [ours, by_hand] = in_turns(&mut buffer, joins);
+    println!("microseconds for joining           library  by hand   lib/by hand");
+    println!(
+        "{:<33} {ours:>8.2} {by_hand:>8.2} {:>13.3}",
+        "the longest log, of two halves",
+        ours / by_hand
+    );
+    true
+}
+
+/// Do both make the same log of them, in the buffer that it fills, in a longer one, and in their other sequence? Do they refuse a
+/// shorter one alike, and each log with its last bit set, or with one of another tool, and leave the buffer?
+fn join_alike(first: &[u8], second: &[u8]) -> bool {
+    let other = variants().pop().expect("a log").log;
+    let spoilt =
+        [first, second].map(|log| [&log[..log.len() - 1], &[log[log.len() - 1] | 1]].concat());
+    let length = first.len() + second.len() - 10;
+    let same = |first: &[u8], second: &[u8], room: usize| {
+        let [ours, by_hand] = JOINS.map(|join| {
+            let mut buffer = vec![0xa5; room];
+            (join(first, second, &mut buffer), buffer)
+        });
+        (ours == by_hand).then_some(ours.0)
+    };
+    let refused = [
+        (&spoilt[0][..], second),
+        (first, &spoilt[1]),
+        (&spoilt[0], &spoilt[1]),
+        (first, &other),
+        (&other, second),
+    ];
+    same(first, second, length) == Some(Ok(length))
+        && same(first, second, length + 1) == Some(Ok(length))
+        && same(second, first, length) == Some(Ok(length))
+        && same(first, second, length - 1) == Some(Err(Refusal::of_log(18)))
+        && refused
+            .iter()
+            .all(|(first, second)| matches!(same(first, second, length), Some(Err(_))))
 }
 
 /// Do all three make the same report?

@@ -29,7 +29,7 @@ const SPARE_MASK: u64 = 3;
 const SHIFTED_TIME_MASK: u64 = (1 << CODE_SHIFT) - 1;
 
 #[inline(always)]
-fn state_word(record: &[u8; 6]) -> u64 {
+pub fn state_word(record: &[u8; 6]) -> u64 {
     let [a, b, c, d, e, f] = *record;
     u64::from(u32::from_be_bytes([a, b, c, d])) << 16 | u64::from(u16::from_be_bytes([e, f]))
 }
@@ -355,6 +355,15 @@ impl Theoretical {
             actual: [0; MODULES],
             effective: [0; MODULES],
         }
+    }
+}
+
+/// Ground 16. No sum of a log that passes it meets 17.
+pub fn not_too_fast(lists: &Lists, times: &Times, sums: &Theoretical) -> Result<(), Refusal> {
+    let mut modules = 0..lists.modules;
+    match modules.find(|&module| sums.actual[module] > times.production[module]) {
+        Some(module) => Err(Refusal::new(16, NO_LIST, module)),
+        None => Ok(()),
     }
 }
 

@@ -11,15 +11,33 @@ const SLOT_BITS: u32 = 10;
 
 /// Writes the report to the front of the buffer; its length, or the refusal.
 pub fn report(log: &[u8], buffer: &mut [u8]) -> Result<usize, Refusal> {
+    let (mut times, mut sums) = (Times::none(), Theoretical::none());
+    let lists = add_up(log, &mut times, &mut sums)?;
+    print(&lists, &times, &sums, buffer)
+}
+
+/// The lists of a log that is accepted, or the refusal.
+pub fn accepted(log: &[u8]) -> Result<Lists<'_>, Refusal> {
+    let (mut times, mut sums) = (Times::none(), Theoretical::none());
+    let lists = add_up(log, &mut times, &mut sums)?;
+    not_too_fast(&lists, &times, &sums)?;
+    Ok(lists)
+}
+
+/// Every ground but 16 to 18, and the sums. Inlined it takes longer.
+#[inline(never)]
+fn add_up<'a>(
+    log: &'a [u8],
+    times: &mut Times,
+    sums: &mut Theoretical,
+) -> Result<Lists<'a>, Refusal> {
     let lists = split(log)?;
-    let mut times = Times::none();
-    add_states(&lists, &mut times)?;
+    add_states(&lists, times)?;
     let mut index = Index { places: [0; SLOTS] };
     let mut standards = Standards::none();
     standards.read(&lists, |pair, place| index.begin(pair, place))?;
-    let mut sums = Theoretical::none();
-    add_units(&lists, &standards, &mut index, &mut sums)?;
-    print(&lists, &times, &sums, buffer)
+    add_units(&lists, &standards, &mut index, sums)?;
+    Ok(lists)
 }
 
 /// For each module and recipe a place of their standards, first that of the first, in the slot of their hash or, where others

@@ -1,12 +1,15 @@
-//! Both plain programs answer what the oracle answers, on every log of the generator, and the calls by hand on its runs.
+//! Both plain programs answer what the oracle answers, on every log of the generator, and the calls by hand on its runs. Joining
+//! by hand makes the log that the records of two make, put together here.
 
 use bench::writing::BY_HAND;
-use bench::{logs, sorted, walk};
+use bench::{joining, logs, sorted, walk};
+use difftest::draft::Draft;
 use difftest::generator::make;
 use difftest::generator::runs::{self, Position};
 use difftest::oracle::{account, read};
-use difftest::records::{Record, Refusal};
+use difftest::records::*;
 use difftest::writing::add;
+use std::collections::{BTreeMap, BTreeSet};
 
 const LOGS: u64 = 50_000;
 const RUNS: u64 = 10_000;
@@ -149,5 +152,137 @@ fn on_the_measured_logs_written() {
         assert_eq!(buffer[length], FILL);
         // A buffer one byte short has no room for the last record.
         assert_eq!(BY_HAND.write(&records, &mut buffer[..length - 1]), 0);
+    }
+}
+
+/// The joined log, or the refusal: the records of both put together, and sorted by their keys.
+fn joined(first: &[u8], second: &[u8]) -> Result<Vec<u8>, Refusal> {
+    account(first)?;
+    account(second).map_err(|refusal| Refusal {
+        list: refusal.list + 10,
+        ..refusal
+    })?;
+    let [mut both, later] =
+        [first, second].map(|log| Draft::of(read(log).expect("an accepted log")));
+    if both.modules != later.modules {
+        return Err(Refusal::of_log(23));
+    }
+    let moved = both.period;
+    both.period += later.period;
+    both.states
+        .extend(later.states.iter().map(|it| StateRecord {
+            time: it.time + moved,
+            ..*it
+        }));
+    both.standards
+        .extend(later.standards.iter().map(|it| Standard {
+            start: it.start + moved,
+            ..*it
+        }));
+    both.units.extend(later.units.iter().map(|it| UnitRecord {
+        time: it.time + moved,
+        ..*it
+    }));
+    both.sort();
+    let [states, standards, units] = both.counts();
+    if both.period > LONGEST_PERIOD {
+        return Err(Refusal::of_log(2));
+    }
+    if states > MOST_STATES || standards > MOST_STANDARDS || units > MOST_UNITS {
+        return Err(Refusal::of_log(4));
+    }
+    Ok(both.bytes())
+}
+
+/// Joins two logs by hand in buffers shorter than the joined log, as long and longer. Number and list of the refusal for any
+/// buffer, zeros where there is none.
+fn compare_joined(first: &[u8], second: &[u8]) -> (u64, u64) {
+    let due = joined(first, second);
+    let length = match &due {
+        Ok(log) => log.len(),
+        Err(_) => (first.len() + second.len()).saturating_sub(10),
+    };
+    for room in [
+        0,
+        length.saturating_sub(1),
+        length,
+        length + 1,
+        length + LARGE,
+    ] {
+        let (mut buffer, mut left) = (vec![FILL; room], vec![FILL; room]);
+        let expected = match &due {
+            Err(refusal) => Err(*refusal),
+            Ok(log) if log.len() > room => Err(Refusal::of_log(18)),
+            Ok(log) => {
+                left[..length].copy_from_slice(log);
+                Ok(length)
+            }
+        };
+        assert_eq!(
+            joining::join(first, second, &mut buffer),
+            expected,
+            "with room {room} of {first:02x?} and {second:02x?}"
+        );
+        assert!(
+            buffer == left,
+            "bytes with room {room} of {first:02x?} and {second:02x?}"
+        );
+    }
+    due.map_or_else(|refusal| (refusal.number, refusal.list), |_| (0, 0))
+}
+
+/// Each log with the one before it, in both sequences, and each accepted one with itself and with the last of as many modules.
+#[test]
+fn on_the_generators_logs_joined() {
+    let (mut any, mut accepted) = (BTreeMap::new(), BTreeMap::new());
+    let mut before = Vec::new();
+    let mut of_modules: BTreeMap<usize, Vec<u8>> = BTreeMap::new();
+    for index in 0..LOGS / 5 {
+        let log = make(12, index).bytes;
+        for (first, second) in [(&before, &log), (&log, &before)] {
+            *any.entry(compare_joined(first, second)).or_insert(0) += 1;
+        }
+        if let Ok(account) = account(&log) {
+            let last = of_modules
+                .insert(account.modules.len(), log.clone())
+                .unwrap_or(log.clone());
+            for (first, second) in [(&log, &log), (&last, &log), (&log, &last)] {
+                *accepted.entry(compare_joined(first, second).0).or_insert(0) += 1;
+            }
+        }
+        before = log;
+    }
+    let lists: BTreeSet<u64> = any.keys().map(|answer| answer.1).collect();
+    assert_eq!(
+        Vec::from_iter(lists),
+        [0, 1, 2, 3, 10, 11, 12, 13],
+        "{any:?}"
+    );
+    assert!(any[&(23, 0)] > 100, "{any:?}");
+    assert_eq!(
+        Vec::from_iter(accepted.keys()),
+        [&0, &2, &4],
+        "{accepted:?}"
+    );
+    assert!(accepted.values().all(|&count| count > 100), "{accepted:?}");
+}
+
+#[test]
+fn on_the_measured_logs_joined() {
+    let [first, second] = logs::halves();
+    for log in [&first, &second] {
+        assert_eq!(log.len(), 31_570);
+        assert!(account(log).is_ok());
+    }
+    assert_eq!(compare_joined(&first, &second), (0, 0));
+    assert_eq!(compare_joined(&second, &first), (0, 0));
+    let longest = joined(&first, &second).unwrap();
+    assert_eq!(longest.len(), 63_130);
+    assert!(account(&longest).is_ok());
+    assert_eq!(compare_joined(&longest, &first), (2, 0));
+    for variant in logs::variants() {
+        compare_joined(&variant.log, &first);
+        compare_joined(&first, &variant.log);
+        compare_joined(&variant.log, &variant.log);
     }
 }
