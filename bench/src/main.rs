@@ -183,7 +183,7 @@ fn joining() -> bool {
 }
 
 /// Do both make the same log of them, in the buffer that it fills, in a longer one, and in their other sequence? Do they refuse a
-/// shorter one alike, and each log with its last bit set, or with one of another tool, and leave the buffer?
+/// shorter one alike, and each log with its last bit set, without its first byte, or with one of another tool, and leave the buffer?
 fn join_alike(first: &[u8], second: &[u8]) -> bool {
     let other = variants().pop().expect("a log").log;
     let spoilt =
@@ -200,6 +200,7 @@ fn join_alike(first: &[u8], second: &[u8]) -> bool {
         (&spoilt[0][..], second),
         (first, &spoilt[1]),
         (&spoilt[0], &spoilt[1]),
+        (first, &second[1..]),
         (first, &other),
         (&other, second),
     ];

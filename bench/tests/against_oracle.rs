@@ -286,3 +286,35 @@ fn on_the_measured_logs_joined() {
         compare_joined(&variant.log, &variant.log);
     }
 }
+
+/// A log of one module that is productive all along, with so many records of each list.
+fn counted([states, standards, units]: [u64; 3]) -> Vec<u8> {
+    let mut draft = Draft {
+        period: MOST_STATES,
+        modules: 1,
+        ..Draft::default()
+    };
+    (0..states).for_each(|time| draft.state(0, time % 2, time));
+    (0..standards).for_each(|recipe| draft.standard(0, recipe, 0, 1));
+    (0..units).for_each(|time| draft.unit(0, 0, time, 1, 1));
+    draft.bytes()
+}
+
+#[test]
+fn on_each_list_at_its_bound_joined() {
+    let least = [1, 1, 0];
+    for (list, most) in [MOST_STATES, MOST_STANDARDS, MOST_UNITS]
+        .into_iter()
+        .enumerate()
+    {
+        for (own, other, number) in [(most - 1, 1, 0), (most, 1, 4), (most / 2 + 1, most / 2, 4)] {
+            let [first, second] = [own, other].map(|count| {
+                let mut counts = least;
+                counts[list] = count;
+                counted(counts)
+            });
+            assert_eq!(compare_joined(&first, &second), (number, 0));
+            assert_eq!(compare_joined(&second, &first), (number, 0));
+        }
+    }
+}
