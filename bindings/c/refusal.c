@@ -31,7 +31,7 @@ static const char *name_of(uint64_t list)
         if (lists[i].list == list)
             return lists[i].name;
     }
-    return "that this header does not have";
+    return "unknown";
 }
 
 static void print_whereabouts(const uint64_t refusal[3])

@@ -438,6 +438,7 @@ def join_logs_into(first, second, buffer: bytearray) -> int:
 
 def join_logs(first, second) -> bytes:
     """One log of two consecutive ones of a tool, the earlier one first. The second's times and starts are moved up by the first's period, and no record
-    of either is left out. The second's refusals have 10 to 13 as list; with list 0, a 23, 2 or 4 may be that of both together."""
+    of either is left out. The second's refusals have list 10 to 13. With list 0, a 23 is about both together, and a 2 or a 4 may be: else it is
+    about the first, which examine tells."""
     buffer = bytearray(LONGEST_LOG)
     return bytes(buffer[: join_logs_into(first, second, buffer)])

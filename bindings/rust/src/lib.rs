@@ -396,8 +396,8 @@ pub fn join_logs_into<'a>(first: &[u8], second: &[u8], buf: &'a mut [u8]) -> Res
 }
 
 /// One log of two consecutive ones of a tool, the earlier one first. The second's times and starts are moved up by the first's period, and no record
-/// of either is left out. The second's refusals have the lists from `Second` on; with no list, an `UnlikeTools`, `Period` or `Counts` may be that of
-/// both together.
+/// of either is left out. The second's refusals have the lists from `Second` on. With no list, `UnlikeTools` is about both together, and `Period` or
+/// `Counts` may be: else it is about the first, which [`examine`] tells.
 pub fn join_logs(first: &[u8], second: &[u8]) -> Result<Vec<u8>, Refusal> {
     let mut buf = [0; LONGEST_LOG];
     join_logs_into(first, second, &mut buf).map(|log| log.to_vec())
