@@ -2,7 +2,7 @@
  * tool_log.h: the packed log of a semiconductor tool, answered: state times, the quantities, efficiencies, losses and supplemental figures of SEMI
  * E79, which standards its units were judged by, and the shift report; written, record by record; and joined from two consecutive ones.
  *
- * Link libtool_log_c.a (x86-64 Linux). It needs nothing but C's memcpy and memset.
+ * Link libtool_log_c.a (x86-64 Linux). It needs nothing but C's memcpy, memmove and memset.
  *
  * Every function takes any sequence of bytes as a log, or as benchmarks, and always returns. It keeps no state, allocates nothing and calls nothing
  * back, so threads may call it at the same time with arrays of their own. It uses less than 64 KiB of stack.
