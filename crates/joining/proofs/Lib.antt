@@ -12,3 +12,4 @@ pub mod MovedLists
 pub mod Turning
 pub mod Laid
 pub mod Answering
+pub mod Grouped

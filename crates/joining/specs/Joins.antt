@@ -81,6 +81,12 @@ pub record Joined (s t : List ℕ) : Type 0 where
   pub tool : of_tool (joined_log (decode s) (decode t)) ≡ added (of_tool (decode s)) (of_tool (decode t))
   pub credits : CreditsKept (decode s) (decode t)
 
+-- three logs of which each two neighbours may be joined join to the same bytes, whichever two come first
+abbrev pub Grouped : Type 0
+Grouped =
+    (s t u : List ℕ) → verdict s ≡ Ok tt → verdict t ≡ Ok tt → verdict u ≡ Ok tt → join_grounds (decode s) (decode t) ≡ Ok tt → join_grounds (decode t) (decode u) ≡ Ok tt
+    → joined_bytes (joined_bytes s t) u ≡ joined_bytes s (joined_bytes t u)
+
 -- the contract: the joined log's bytes at the front of the buffer, and what was behind them behind them
 abbrev pub Joins : List ℕ → List ℕ → List ℕ → Result ℕ Refusal → List ℕ → Type 0
 Joins s t before r after =

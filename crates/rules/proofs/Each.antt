@@ -1,10 +1,11 @@
 -- Each of a list has a property, and each comes before all behind it: the two facts that an accepted list comes down to.
 -- Assumes nothing.
-use mathlib.Core.Path.{◌≡◌, refl}
+use mathlib.Core.Path.{◌≡◌, refl, sym}
 use mathlib.Core.Bool.{true}
 use mathlib.Core.Option.{Option, none, some}
 use mathlib.Core.List.{List, [], ◌∷◌, ◌++◌, map, foldl}
 use Prim.Native.Nat.{ℕ}
+use native.Mathlib.Omega.{arith}
 use Rattle.rules.specs.Sequence.{just_before, is_after, is_rising_after, is_rising}
 use Rattle.rules.specs.Lists.{Each, Ordered, Before, Rises}
 use Rattle.rules.proofs.Sequence.{rising_above, rising_tail}
@@ -56,6 +57,20 @@ module _ {A : Type 0} (key : A → List ℕ) where
 
   pub rises : (rs : List A) → is_rising key rs ≡ true → Rises key rs
   rises rs e = rises-after none rs e
+
+  -- and back
+  rising-after : (before : Option A) (rs : List A) → Rises key rs → ((b : A) → before ≡ some b → Each (Before key b) rs) → is_rising_after key before rs ≡ true
+  unfolding is_rising_after
+  rising-after none [] u k = refl
+  rising-after (some b) [] u k = refl
+  rising-after none (r ∷ rs) u k = rising-after (some r) rs u.1 (λ b e. let q : r ≡ b = cc in rw (sym q) u.0)
+  rising-after (some b) (r ∷ rs) u k = rw (k b refl).0 (rising-after (some r) rs u.1 (λ c e. let q : r ≡ c = cc in rw (sym q) u.0))
+
+  pub rising : (rs : List A) → Rises key rs → is_rising key rs ≡ true
+  rising rs u = rising-after none rs u (λ b e. absurd (nothing b e))
+    where
+      nothing : (b : A) → none ≡ some b → ⊥
+      nothing b e = let z : ◌≡◌ {A = ℕ} 0 1 = cc in omega arith
 
   pub rises-append : (rs qs : List A) → Rises key rs → Rises key qs → Each (λ r. Each (Before key r) qs) rs → Rises key (rs ++ qs)
   rises-append [] qs e f x = f

@@ -187,10 +187,13 @@ module _ {A : Type 0} (key : A → List ℕ) where
       ]
   perm-member (Permᴰ.trans d e) m = perm-member e (perm-member d m)
 
-  -- rising lists of the same records, in whatever sequence, are the same
-  pub same_rising : (xs ys : List A) → is_rising key xs ≡ true → is_rising key ys ≡ true → Permᴰ xs ys → xs ≡ ys
+  -- rising lists with the same members, or of the same records in whatever sequence, are the same
+  pub rising_same : (xs ys : List A) → is_rising key xs ≡ true → is_rising key ys ≡ true → ((a : A) → Memᴰ a xs → Memᴰ a ys) → ((a : A) → Memᴰ a ys → Memᴰ a xs) → xs ≡ ys
   unfolding Within
-  same_rising xs ys p q d = same-members none none xs ys p q (λ a. perm-member d) (λ a. perm-member (Permᴰ.symm d))
+  rising_same xs ys p q f g = same-members none none xs ys p q f g
+
+  pub same_rising : (xs ys : List A) → is_rising key xs ≡ true → is_rising key ys ≡ true → Permᴰ xs ys → xs ≡ ys
+  same_rising xs ys p q d = rising_same xs ys p q (λ a. perm-member d) (λ a. perm-member (Permᴰ.symm d))
 
 -- ---- a list read record by record
 
