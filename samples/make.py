@@ -243,6 +243,35 @@ def idle():
     return log(WEEK, 1, states, [], [])
 
 
+# Two days of a tool of two modules: period, modules, states, standards, units. Module 0 is regular at both sides of midnight and has recipe 3 by the
+# same time, revised at noon of tuesday; module 1 is under repair at the end of monday and set up from then on, and has recipe 3 by another time.
+# Recipe 2 is run on monday alone, 4 on tuesday alone. Units are recorded in monday's last ms and at time 0 of tuesday.
+MONDAY = (
+    DAY, 2,
+    [(0, REGULAR, 0), (1, REGULAR, 0), (1, REPAIR, 17 * HOUR), (0, NO_PRODUCT, 20 * HOUR), (0, REGULAR, 23 * HOUR)],
+    [(0, 3, 0, 90 * SECOND), (1, 2, 0, 60 * SECOND), (1, 3, 0, 100 * SECOND)],
+    [(1, 3, 10 * HOUR, 200, 198), (0, 3, 12 * HOUR, 300, 294), (1, 2, 15 * HOUR, 240, 240), (0, 3, DAY - 1, 320, 314)],
+)
+TUESDAY = (
+    DAY, 2,
+    [(0, REGULAR, 0), (1, SET_UP, 0), (1, REGULAR, 2 * HOUR), (1, NO_PRODUCT, 20 * HOUR), (0, PREVENTIVE, 22 * HOUR)],
+    [(0, 3, 0, 90 * SECOND), (0, 3, 12 * HOUR, 80 * SECOND), (0, 4, 0, 100 * SECOND), (1, 3, 0, 80 * SECOND)],
+    [(0, 3, 0, 10, 10), (0, 4, 6 * HOUR, 60, 57), (0, 3, 12 * HOUR - 1, 340, 336), (0, 3, 12 * HOUR, 20, 20), (1, 3, 17 * HOUR, 500, 495),
+     (0, 3, 21 * HOUR, 400, 396)],
+)
+
+
+def joined(first, second):
+    """The records of two consecutive logs of one tool as those of one log."""
+    period, modules, *lists = first
+    later, _, states, standards, units = second
+    moved = ([(module, code, time + period) for module, code, time in states],
+             [(module, recipe, start + period, theoretical) for module, recipe, start, theoretical in standards],
+             [(module, recipe, time + period, *made) for module, recipe, time, *made in units])
+    states, standards, units = (own + other for own, other in zip(lists, moved))
+    return period + later, modules, states, sorted(standards), units
+
+
 SAMPLES = {
     "case-w": case_w,
     "r1-1": r1_1,
@@ -255,6 +284,9 @@ SAMPLES = {
     "longest": longest,
     "same-shift": same_shift,
     "idle": idle,
+    "monday": lambda: log(*MONDAY),
+    "tuesday": lambda: log(*TUESDAY),
+    "two-days": lambda: log(*joined(MONDAY, TUESDAY)),
     # One for each number from 2 to 16.
     "refused-period": lambda: shift(period=367 * DAY),
     "refused-modules": lambda: shift(modules=65),

@@ -269,6 +269,62 @@ fn credited_by_hand() {
     assert_eq!(listing(&log("idle")), Ok(Vec::new()));
 }
 
+/// The sums of samples/README.md: those of the two days added, module by module, and each standard's units, in the joined log's sequence.
+#[test]
+fn joined_days_by_hand() {
+    let days = ["monday", "tuesday", "two-days"].map(|name| account(&log(name)).expect("accepted"));
+    let in_s = |sums: &difftest::oracle::Sums| {
+        let times = sums.state_times.map(|ms| ms / 1_000);
+        (times, sums.quantities.array().map(|ms| ms / 1_000))
+    };
+    let module_0 = days.each_ref().map(|day| in_s(&day.modules[0]));
+    assert_eq!(
+        module_0[0],
+        (
+            [75_600, 10_800, 0, 0, 0, 0],
+            [86_400, 86_400, 75_600, 620 * 90, 608 * 90]
+        )
+    );
+    assert_eq!(
+        module_0[1],
+        (
+            [79_200, 0, 0, 7_200, 0, 0],
+            [86_400, 79_200, 79_200, 71_100, 70_120]
+        )
+    );
+    assert_eq!(
+        module_0[2],
+        (
+            [154_800, 10_800, 0, 7_200, 0, 0],
+            [172_800, 165_600, 154_800, 126_900, 124_840]
+        )
+    );
+    let module_1 = days.each_ref().map(|day| in_s(&day.modules[1]));
+    for (joined, own) in [
+        (module_0[2], [module_0[0], module_0[1]]),
+        (module_1[2], [module_1[0], module_1[1]]),
+    ] {
+        let [first, second] = own;
+        assert_eq!(
+            joined.0,
+            std::array::from_fn(|at| first.0[at] + second.0[at])
+        );
+        assert_eq!(
+            joined.1,
+            std::array::from_fn(|at| first.1[at] + second.1[at])
+        );
+    }
+    let lines =
+        |name: &str| String::from_utf8(listing(&log(name)).expect("accepted")).expect("text");
+    assert_eq!(lines("monday"), "0 620\n1 240\n2 200\n");
+    assert_eq!(lines("tuesday"), "0 350\n1 420\n2 60\n3 500\n");
+    assert_eq!(
+        lines("two-days"),
+        "0 620\n1 350\n2 420\n3 60\n4 240\n5 200\n6 500\n"
+    );
+    assert!(output(&log("two-days")).contains("\ntool 0.8854 0.9176 0.7169 0.9868 0.5748\n"));
+}
+
 /// As many records as a log may have, and every figure with a base: the longest log and the longest
 /// report.
 #[test]
