@@ -1,15 +1,13 @@
 //! Compares what the library answers for one log with what the oracle answers.
 
+use crate::answer::{lent, writes, Answer, UNTOUCHED, UNTOUCHED_FLAG};
 use crate::credited::{Credited, InForce, Lookup};
-use crate::library::{self, Answer, FiguresAndBases, Whose, UNTOUCHED, UNTOUCHED_FLAG};
+use crate::library::{self, FiguresAndBases, Whose};
 use crate::losses::Bar;
 use crate::oracle::{figures, Account, Figures, Sums};
 use crate::records::Refusal;
 use crate::supplemental::Supplemental;
 use std::fmt::Debug;
-
-/// Bytes on both sides of the lent buffer that must stay as they are.
-const MARGIN: usize = 64;
 
 /// Room for every report, and for every listing.
 const LARGE_ROOM: usize = 4_096;
@@ -94,7 +92,7 @@ impl<'a> Comparison<'a> {
     ) {
         // At every alignment, whatever the log's.
         let offset = (slice.len() + number) % 8;
-        let space = library::lent(slice, offset);
+        let space = lent(slice, offset);
         let lent = &space[offset..];
         let before = self.differences.len();
         let what = format!("supplemental figures, slice {number}");
@@ -239,15 +237,9 @@ impl<'a> Comparison<'a> {
         room: usize,
         call: impl FnOnce(&mut [u8]) -> T,
     ) -> T {
-        let mut due: Vec<u8> = (0..room + 2 * MARGIN)
-            .map(|at| (at * 31 + room) as u8)
-            .collect();
-        let mut lent = due.clone();
-        due[MARGIN..MARGIN + text.len()].copy_from_slice(text);
-        let answer = call(&mut lent[MARGIN..MARGIN + room]);
-        if let Some(at) = (0..due.len()).find(|&at| due[at] != lent[at]) {
-            let byte = at as isize - MARGIN as isize;
-            self.differs(&format!("{what}, byte {byte}"), &due[at], &lent[at]);
+        let (answer, wrong) = writes(text, room, call);
+        if let Some((byte, due, found)) = wrong {
+            self.differs(&format!("{what}, byte {byte}"), &due, &found);
         }
         answer
     }

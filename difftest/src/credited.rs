@@ -90,7 +90,7 @@ pub fn look_up(credited: &Result<Credited, Refusal>, lookup: &Lookup) -> Result<
 
 /// An accepted log, and its standards with the units credited to each.
 pub struct Credited {
-    log: Log,
+    pub log: Log,
     revisions: Vec<Revision>,
 }
 

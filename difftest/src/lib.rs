@@ -2,10 +2,14 @@
 //! apart from the library (`oracle`, `writing`, `supplemental`, `losses`, `credited`), a seeded generator of logs, of
 //! runs of calls that write them, of lookups in them and of benchmarks, and the comparison with the linked library.
 
+pub mod answer;
 pub mod arguments;
 pub mod credited;
 pub mod draft;
 pub mod generator;
+pub mod joined;
+pub mod joined_comparison;
+pub mod joins;
 pub mod losses;
 pub mod oracle;
 pub mod prng;

@@ -1,5 +1,6 @@
 //! The linked library, called safely. Arrays go in filled, so that what a refusal leaves shows.
 
+use crate::answer::{Answer, UNTOUCHED, UNTOUCHED_FLAG};
 use crate::credited::Lookup;
 use crate::records::Record;
 use tool_log::c;
@@ -11,26 +12,8 @@ pub enum Whose {
     Tool,
 }
 
-/// What a call leaves: its answer, the caller's array and the refusal.
-#[derive(Clone, Copy, Debug)]
-pub struct Answer<T> {
-    pub answered: u32,
-    pub values: T,
-    pub refusal: [u64; 3],
-}
-
-/// What arrays hold ahead of a call: no sum, no figure and no flag that the library could answer.
-pub const UNTOUCHED: u64 = 0xa5a5_a5a5_a5a5_a5a5;
-pub const UNTOUCHED_FLAG: u8 = 0xa5;
-
 /// Figures and whether each efficiency has a base.
 pub type FiguresAndBases = ([f64; 6], [u8; 4]);
-
-/// Bytes to lend, from the offset on: their last is the last of what is allocated.
-pub fn lent(bytes: &[u8], offset: usize) -> Box<[u8]> {
-    let front = std::iter::repeat_n(&0xff, offset);
-    front.chain(bytes).copied().collect()
-}
 
 pub fn examine(log: &[u8], room: usize) -> Answer<()> {
     let mut refusal = [UNTOUCHED; 3];
@@ -181,6 +164,28 @@ pub fn standard_in_force(log: &[u8], lookup: &Lookup) -> Answer<[u64; 2]> {
     Answer {
         answered,
         values,
+        refusal,
+    }
+}
+
+/// Writes the log joined of two to the front of the buffer; its length.
+pub fn join(first: &[u8], second: &[u8], buffer: &mut [u8]) -> Answer<[u64; 1]> {
+    let (mut length, mut refusal) = ([UNTOUCHED; 1], [UNTOUCHED; 3]);
+    let answered = unsafe {
+        c::tl_join(
+            first.as_ptr(),
+            first.len(),
+            second.as_ptr(),
+            second.len(),
+            buffer.as_mut_ptr(),
+            buffer.len(),
+            &mut length,
+            &mut refusal,
+        )
+    };
+    Answer {
+        answered,
+        values: length,
         refusal,
     }
 }

@@ -73,6 +73,7 @@ impl BitReader<'_> {
 }
 
 /// A log whose header passed and whose length is right; its records are not tested yet.
+#[derive(Clone)]
 pub struct Log {
     pub header: Header,
     pub states: Vec<StateRecord>,
@@ -80,14 +81,13 @@ pub struct Log {
     pub units: Vec<UnitRecord>,
 }
 
-/// Grounds 1 to 5.
-pub fn read(bytes: &[u8]) -> Result<Log, Refusal> {
+/// The header of a log that passes grounds 1 to 5.
+pub fn header(bytes: &[u8]) -> Result<Header, Refusal> {
     let length = bytes.len() as u64;
     if length < HEADER_BYTES {
         return Err(Refusal::of_log(1));
     }
-    let mut reader = BitReader { bytes, position: 0 };
-    let header = reader.header();
+    let header = BitReader { bytes, position: 0 }.header();
     if header.period == 0 || header.period > LONGEST_PERIOD {
         return Err(Refusal::of_log(2));
     }
@@ -105,6 +105,14 @@ pub fn read(bytes: &[u8]) -> Result<Log, Refusal> {
     if length != due {
         return Err(Refusal::of_log(5));
     }
+    Ok(header)
+}
+
+/// The records behind the header.
+pub fn read(bytes: &[u8]) -> Result<Log, Refusal> {
+    let header = header(bytes)?;
+    let position = 8 * HEADER_BYTES as usize;
+    let mut reader = BitReader { bytes, position };
     Ok(Log {
         header,
         states: (0..header.states).map(|_| reader.state_record()).collect(),

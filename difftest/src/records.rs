@@ -162,6 +162,9 @@ pub const STANDARDS: u64 = 2;
 pub const UNITS: u64 = 3;
 pub const BENCHMARKS: u64 = 4;
 
+/// What is added to the list of a refusal of the second of two logs.
+pub const SECOND: u64 = 10;
+
 impl Refusal {
     pub fn new(number: u64, list: u64, place: usize) -> Refusal {
         Refusal {

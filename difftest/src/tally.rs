@@ -1,6 +1,7 @@
 //! Counts what a run met, so that a refusal or a tie that a generator misses shows.
 
 use crate::credited::{Credited, InForce, Lookup, LOOKUPS, SHAPES};
+use crate::joins::Joins;
 use crate::oracle::Account;
 use crate::records::*;
 use crate::supplemental::Supplemental;
@@ -9,7 +10,7 @@ use std::collections::{BTreeMap, BTreeSet};
 use std::fmt;
 
 /// What a log can be refused for, number and list. 17 cannot be met: after 16 no sum passes its bound. 18 is for a buffer.
-const OF_LOGS: [(u64, u64); 24] = [
+pub(crate) const OF_LOGS: [(u64, u64); 24] = [
     (1, NO_LIST),
     (2, NO_LIST),
     (3, NO_LIST),
@@ -48,7 +49,7 @@ fn ties(tied: usize) -> impl Iterator<Item = (usize, usize)> {
 }
 
 /// The names of what was counted never.
-fn missed(names: &[&str], counts: &[u64]) -> Vec<String> {
+pub(crate) fn missed(names: &[&str], counts: &[u64]) -> Vec<String> {
     let counted = names.iter().zip(counts);
     let never = counted.filter(|(_, count)| **count == 0);
     never.map(|(name, _)| name.to_string()).collect()
@@ -79,15 +80,19 @@ impl Verdicts {
     }
 
     /// Those of number and list that were not met.
-    fn never_met(&self, due: &[(u64, u64)]) -> Vec<String> {
+    pub(crate) fn never_met(&self, due: &[(u64, u64)]) -> Vec<String> {
         due.iter()
             .filter(|(number, list)| !self.met(*number, *list))
             .map(|(number, list)| format!("{number} list {list}"))
             .collect()
     }
 
+    pub(crate) fn refused(&self) -> u64 {
+        self.refused.values().sum()
+    }
+
     fn summary(&self, what: &str) -> String {
-        let refused: u64 = self.refused.values().sum();
+        let refused = self.refused();
         format!(
             "{} {what}, {} accepted, {refused} refused",
             self.accepted + refused,
@@ -120,6 +125,7 @@ pub struct Tally {
     /// Those of one value that does not fit, by list and field.
     too_wide_alone: BTreeMap<(u64, usize), u64>,
     pub finishing: Verdicts,
+    pub joins: Joins,
 }
 
 impl Tally {

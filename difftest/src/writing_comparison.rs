@@ -1,16 +1,12 @@
 //! Compares what the library's calls that write answer and leave, in one run of them, with the oracle.
 
+use crate::answer::{same, same_verdict, MARGIN, UNTOUCHED};
 use crate::generator::runs::{Call, Position, Run};
-use crate::library::{self, Answer, UNTOUCHED};
-use crate::records::Refusal;
+use crate::library;
 use crate::tally::Tally;
 use crate::writing::{add, finish};
 use std::collections::BTreeSet;
-use std::fmt::Debug;
 use std::ops::Range;
-
-/// Bytes on both sides of the lent buffer that must stay as they are.
-const MARGIN: usize = 64;
 
 /// Bytes that a run may compare before it looks at all of them behind some of its calls only, and behind the others
 /// at so many on both sides of the record.
@@ -132,20 +128,4 @@ impl Lent {
         let byte = (range.start + at) as isize - self.buffer.start as isize;
         same(&format!("byte {byte}"), &due[at], &found[at])
     }
-}
-
-/// The flag and the refusal that a call must leave.
-fn same_verdict<T, V>(expected: &Result<T, Refusal>, answer: &Answer<V>) -> Result<(), String> {
-    let due = match expected {
-        Ok(_) => (1, [0, 0, 0]),
-        Err(refusal) => (0, [refusal.number, refusal.list, refusal.place]),
-    };
-    same("verdict", &due, &(answer.answered, answer.refusal))
-}
-
-fn same<T: Debug + PartialEq>(what: &str, due: &T, found: &T) -> Result<(), String> {
-    if due != found {
-        return Err(format!("{what}: expected {due:?}, found {found:?}"));
-    }
-    Ok(())
 }

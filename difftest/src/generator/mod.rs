@@ -1,16 +1,18 @@
 //! Makes logs from a seed: valid ones of every shape and damaged ones of every kind; runs of calls that write them, lookups in
-//! them, and benchmarks for them.
+//! them, benchmarks for them, and pairs of logs to join.
 
 mod bars;
 pub mod benchmarks;
 mod faults;
 pub mod lookups;
+pub mod pairs;
 mod raw;
 mod revisions;
 pub mod runs;
 mod sequences;
 mod valid;
 
+use crate::draft::Draft;
 use crate::prng::Prng;
 use crate::records::Refusal;
 
@@ -44,42 +46,50 @@ const REVISIONS_ONCE_IN: u64 = 6;
 
 /// The log of a seed and an index.
 pub fn make(seed: u64, index: u64) -> Made {
-    let mut rng = Prng::new(seed, index);
-    let draft = if rng.once_in(BARS_ONCE_IN) {
-        bars::draft(&mut rng)
+    any(&mut Prng::new(seed, index))
+}
+
+/// The records of a valid log.
+fn draft(rng: &mut Prng) -> Draft {
+    if rng.once_in(BARS_ONCE_IN) {
+        bars::draft(rng)
     } else if rng.once_in(REVISIONS_ONCE_IN) {
-        revisions::draft(&mut rng)
+        revisions::draft(rng)
     } else {
-        valid::draft(&mut rng)
-    };
+        valid::draft(rng)
+    }
+}
+
+fn any(rng: &mut Prng) -> Made {
+    let draft = draft(rng);
     match rng.below(100) {
         0..=44 => Made {
             bytes: draft.bytes(),
             expected: Expected::Accepted,
         },
         45..=79 => {
-            let (draft, refusal) = faults::one(&mut rng, &draft);
+            let (draft, refusal) = faults::one(rng, &draft);
             Made {
                 bytes: draft.bytes(),
                 expected: Expected::Refused(refusal),
             }
         }
         80..=86 => {
-            let draft = faults::several(&mut rng, &draft);
+            let draft = faults::several(rng, &draft);
             Made {
                 bytes: draft.bytes(),
                 expected: Expected::Unknown,
             }
         }
         87..=90 => {
-            let draft = sequences::any(&mut rng, &draft);
+            let draft = sequences::any(rng, &draft);
             Made {
                 bytes: draft.bytes(),
                 expected: Expected::Unknown,
             }
         }
         _ => Made {
-            bytes: raw::damaged(&mut rng, &draft),
+            bytes: raw::damaged(rng, &draft),
             expected: Expected::Unknown,
         },
     }

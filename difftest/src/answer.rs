@@ -1,0 +1,65 @@
+//! What a call leaves, and what arrays hold ahead of it.
+
+use crate::records::Refusal;
+use std::fmt::Debug;
+
+/// What a call leaves: its answer, the caller's array and the refusal.
+#[derive(Clone, Copy, Debug)]
+pub struct Answer<T> {
+    pub answered: u32,
+    pub values: T,
+    pub refusal: [u64; 3],
+}
+
+/// What arrays hold ahead of a call: no sum, no figure and no flag that the library could answer.
+pub const UNTOUCHED: u64 = 0xa5a5_a5a5_a5a5_a5a5;
+pub const UNTOUCHED_FLAG: u8 = 0xa5;
+
+/// Bytes to lend, from the offset on: their last is the last of what is allocated.
+pub fn lent(bytes: &[u8], offset: usize) -> Box<[u8]> {
+    let front = std::iter::repeat_n(&0xff, offset);
+    front.chain(bytes).copied().collect()
+}
+
+/// Bytes on both sides of a lent buffer that must stay as they are.
+pub const MARGIN: usize = 64;
+
+/// A byte that a call must not have left so: its place in the lent buffer, what is due and what is there.
+pub type WrongByte = (isize, u8, u8);
+
+/// What a call answers that has to write these bytes to the front of a buffer with room for so many, and nothing else there or on its two sides; and the first
+/// byte that differs.
+pub fn writes<T>(
+    bytes: &[u8],
+    room: usize,
+    call: impl FnOnce(&mut [u8]) -> T,
+) -> (T, Option<WrongByte>) {
+    let mut due: Vec<u8> = (0..room + 2 * MARGIN)
+        .map(|at| (at * 31 + room) as u8)
+        .collect();
+    let mut lent = due.clone();
+    due[MARGIN..MARGIN + bytes.len()].copy_from_slice(bytes);
+    let answer = call(&mut lent[MARGIN..MARGIN + room]);
+    let wrong = match due == lent {
+        true => None,
+        false => (0..due.len()).find(|&at| due[at] != lent[at]),
+    };
+    let wrong = wrong.map(|at| (at as isize - MARGIN as isize, due[at], lent[at]));
+    (answer, wrong)
+}
+
+/// The flag and the refusal that a call must leave.
+pub fn same_verdict<T, V>(expected: &Result<T, Refusal>, answer: &Answer<V>) -> Result<(), String> {
+    let due = match expected {
+        Ok(_) => (1, [0, 0, 0]),
+        Err(refusal) => (0, [refusal.number, refusal.list, refusal.place]),
+    };
+    same("verdict", &due, &(answer.answered, answer.refusal))
+}
+
+pub fn same<T: Debug + PartialEq>(what: &str, due: &T, found: &T) -> Result<(), String> {
+    if due != found {
+        return Err(format!("{what}: expected {due:?}, found {found:?}"));
+    }
+    Ok(())
+}
