@@ -143,17 +143,38 @@ impl Joins {
             .collect()
     }
 
-    /// The same, and 18, a joined log tried as any other, and three logs in both groupings.
+    /// Which answers were never due: a joined log, a refusal for the first or for the second, and each number that is for both together.
+    pub fn never_answered(&self) -> Vec<String> {
+        let [of_first, of_second] = [&self.of_first, &self.of_second].map(Verdicts::refused);
+        let together =
+            |bit: usize| (0..8).filter(move |mask| mask & bit != 0 && mask & (bit - 1) == 0);
+        let of_both = |bit: usize| together(bit).map(|mask| self.together[mask]).sum();
+        let counted = [
+            (self.accepted, "a joined log"),
+            (of_first, "a refusal of the first"),
+            (of_second, "a refusal of the second"),
+            (of_both(1), "23"),
+            (of_both(2), "2 for both together"),
+            (of_both(4), "4 for both together"),
+        ];
+        never(&counted)
+    }
+
+    /// What no two logs met, and 18, a joined log tried as any other, and three logs in both groupings.
     pub fn never_met_with_buffers(&self) -> Vec<String> {
         let counted = [
             (self.short, "18 list 0"),
             (self.tried, "a joined log tried as any other"),
             (self.triples, "three logs"),
         ];
-        let never = counted.into_iter().filter(|(count, _)| *count == 0);
-        let never = never.map(|(_, name)| String::from(name));
-        self.never_met().into_iter().chain(never).collect()
+        [self.never_met(), never(&counted)].concat()
     }
+}
+
+/// The names of what was counted never.
+fn never(counted: &[(u64, &str)]) -> Vec<String> {
+    let never = counted.iter().filter(|(count, _)| *count == 0);
+    never.map(|(_, name)| String::from(*name)).collect()
 }
 
 fn numbers(mask: usize) -> Vec<u64> {

@@ -252,7 +252,7 @@ fn counted(joins: &mut Joins, first: &[u8], second: &[u8]) -> Option<Refusal> {
 #[test]
 fn the_oracle_answers_what_the_generator_expects() {
     let mut joins = Joins::default();
-    for number in 0..10_000 {
+    for number in 0..5_000 {
         let pair = pairs::make(3, number);
         let [first, second] = &pair.logs;
         let refusal = counted(&mut joins, first, second);

@@ -1,12 +1,13 @@
-//! Compares what the program `toollog` prints with the oracle on the generator's logs, with benchmarks for them.
+//! Compares what the program `toollog` prints with the oracle on the generator's logs, with benchmarks for them, and what it makes of pairs of logs.
 //!
 //! programs SEED COUNT TOOLLOG
 
 use difftest::arguments::two_numbers;
 use difftest::credited::Credited;
-use difftest::generator::{benchmarks, make};
+use difftest::generator::{benchmarks, make, pairs};
+use difftest::joined::{join, Accepted};
 use difftest::oracle::{account, Account};
-use difftest::records::{Refusal, BENCHMARKS};
+use difftest::records::{Refusal, BENCHMARKS, SECOND};
 use difftest::supplemental::{answer, text, words, Judged};
 use difftest::tally::Tally;
 use std::fs;
@@ -64,7 +65,7 @@ fn main() -> ExitCode {
         let expected = figures.map(|figures| text(&figures));
         // By name; or one of them on standard input, once in four each.
         let input = [None, None, Some(0), Some(1)][index as usize / 8 % 4];
-        let (printed, names) = files.run(&program, [&log, slice], input);
+        let (printed, names) = files.supplemental(&program, [&log, slice], input);
         let [log_name, slice_name] = &names;
         let name = match &expected {
             Err(refusal) if refusal.list == BENCHMARKS => slice_name,
@@ -72,13 +73,24 @@ fn main() -> ExitCode {
         };
         let subcommand = format!("supplemental, slice {number},");
         compare(&subcommand, prints(&printed, name, &expected), printed);
+
+        let pair = pairs::make(seed, index);
+        let judged = pair.logs.each_ref().map(|log| Accepted::of(log));
+        let joined = join(&judged[0], &judged[1]);
+        let logs = pair.logs.each_ref().map(|log| &log[..]);
+        tally.joins.count(logs, judged.each_ref(), &joined);
+        let joined = joined.map(|joined| joined.log.bytes);
+        // In the place of a file, or where there was none.
+        let before = (index % 2 == 0).then_some(&b"old"[..]);
+        let (printed, same) = files.join(&program, logs, input, before, &joined);
+        compare("join", same, printed);
     }
-    let never_met = tally.never_met_in_reading();
+    let never_met = [tally.never_met_in_reading(), tally.joins.never_answered()].concat();
     let all_met = never_met.is_empty();
     if !all_met {
         println!("never met: {never_met:?}");
     }
-    println!("{count} logs, each by six subcommands of toollog, {differences} differences");
+    println!("{count} logs, each by six subcommands of toollog, and as many pairs, {differences} differences");
     ExitCode::from(u8::from(differences > 0 || !all_met))
 }
 
@@ -95,7 +107,7 @@ fn run(program: &str, arguments: &[&str], input: &[u8]) -> Output {
     child.wait_with_output().expect("the program ends")
 }
 
-/// A folder for the log and the benchmarks, which goes when the run ends.
+/// A folder for the files, which goes when the run ends.
 struct Files {
     folder: PathBuf,
 }
@@ -108,17 +120,21 @@ impl Files {
         Ok(Files { folder })
     }
 
-    /// What `toollog supplemental` prints of log and benchmarks, and the names that it has to call them by. One of them may be
-    /// on standard input.
+    fn path(&self, name: &str) -> String {
+        self.folder.join(name).display().to_string()
+    }
+
+    /// What a subcommand prints of two files, and the names that it has to call them by. One of them may be on standard input.
     fn run(
         &self,
         program: &str,
-        slices: [&Vec<u8>; 2],
+        subcommand: &str,
+        files: [(&str, &[u8]); 2],
         input: Option<usize>,
+        last: Option<&str>,
     ) -> (Output, [String; 2]) {
-        let path = |name: &str| self.folder.join(name).display().to_string();
-        let mut names = [path("log"), path("benchmarks")];
-        for (name, bytes) in names.iter().zip(slices) {
+        let mut names = files.map(|(name, _)| self.path(name));
+        for (name, (_, bytes)) in names.iter().zip(files) {
             fs::write(name, bytes).expect("a file that can be written");
         }
         let mut arguments = names.clone();
@@ -126,10 +142,59 @@ impl Files {
             arguments[which] = String::from("-");
             names[which] = String::from(INPUT);
         }
-        let [log, benchmarks] = &arguments;
-        let bytes = input.map_or(&[][..], |which| slices[which]);
-        let printed = run(program, &["supplemental", log, benchmarks], bytes);
-        (printed, names)
+        let [one, other] = &arguments;
+        let arguments: Vec<&str> = [subcommand, one, other].into_iter().chain(last).collect();
+        let bytes = input.map_or(&[][..], |which| files[which].1);
+        (run(program, &arguments, bytes), names)
+    }
+
+    fn supplemental(
+        &self,
+        program: &str,
+        [log, benchmarks]: [&[u8]; 2],
+        input: Option<usize>,
+    ) -> (Output, [String; 2]) {
+        let files = [("log", log), ("benchmarks", benchmarks)];
+        self.run(program, "supplemental", files, input, None)
+    }
+
+    /// What `toollog join` prints of two logs, and whether it prints and leaves what is due where its file held this before.
+    fn join(
+        &self,
+        program: &str,
+        [first, second]: [&[u8]; 2],
+        input: Option<usize>,
+        before: Option<&[u8]>,
+        due: &Result<Vec<u8>, Refusal>,
+    ) -> (Output, bool) {
+        let result = self.path("result");
+        let _ = fs::remove_file(&result);
+        if let Some(before) = before {
+            fs::write(&result, before).expect("a file that can be written");
+        }
+        let files = [("first", first), ("second", second)];
+        let (printed, names) = self.run(program, "join", files, input, Some(&result));
+        let prints = match due {
+            Ok(_) => prints(&printed, "", &Ok(Vec::new())),
+            Err(refusal) => {
+                let own = refusal.list.checked_sub(SECOND);
+                let told = Refusal {
+                    list: own.unwrap_or(refusal.list),
+                    ..*refusal
+                };
+                let of_first = account(first).err() == Some(*refusal);
+                let name = match own {
+                    Some(_) => &names[1],
+                    None if of_first => &names[0],
+                    None => &result,
+                };
+                printed.stdout == refusal.line().as_bytes() && says(&printed.stderr, name, &told)
+            }
+        };
+        let left = fs::read(&result).ok();
+        let due = due.as_deref().ok().or(before);
+        let beside = fs::exists(format!("{result}.new")).is_ok_and(|is_there| !is_there);
+        (printed, prints && left.as_deref() == due && beside)
     }
 }
 

@@ -1,11 +1,12 @@
-//! Runs the generator's logs through the oracle alone: what it makes, and whether the oracle
+//! Runs the generator's logs, and as many pairs of logs to join, through the oracle alone: what it makes, and whether the oracle
 //! answers what the generator expects.
 //!
 //! survey SEED COUNT
 
 use difftest::arguments::two_numbers;
 use difftest::credited::{look_up, Credited};
-use difftest::generator::{benchmarks, lookups, make};
+use difftest::generator::{benchmarks, lookups, make, pairs};
+use difftest::joined::{join, Accepted};
 use difftest::oracle::account;
 use difftest::supplemental::{answer, Judged};
 use difftest::tally::Tally;
@@ -54,13 +55,31 @@ fn main() -> ExitCode {
             }
         }
     }
+    for number in 0..count {
+        let pair = pairs::make(seed, number);
+        let judged = pair.logs.each_ref().map(|log| Accepted::of(log));
+        let joined = join(&judged[0], &judged[1]);
+        let logs = pair.logs.each_ref().map(|log| &log[..]);
+        tally.joins.count(logs, judged.each_ref(), &joined);
+        if !pair.expected.agrees(&joined) {
+            unexpected += 1;
+            let (expected, refusal) = (&pair.expected, joined.err());
+            println!("pair {number}: expected {expected:?}, judged {refusal:?}");
+        }
+    }
     print!("{tally}");
     println!("longest accepted log: {accepted_bytes} bytes");
     print!("{}", tally.losses());
     print!("{}", tally.credited());
     print!("{}", tally.lookups());
     print!("{}", tally.supplemental());
-    let never_met = [tally.never_met_in_reading(), tally.never_met_in_lookups()].concat();
+    print!("{}", tally.joins);
+    let never_met = [
+        tally.never_met_in_reading(),
+        tally.never_met_in_lookups(),
+        tally.joins.never_met(),
+    ]
+    .concat();
     println!("never met: {never_met:?}; unexpected: {unexpected}");
     let all_met = never_met.is_empty();
     ExitCode::from(u8::from(unexpected > 0 || !all_met))
