@@ -78,6 +78,11 @@ impl Joins {
         }
     }
 
+    pub fn pairs(&self) -> u64 {
+        let [first, second] = [&self.of_first, &self.of_second].map(Verdicts::refused);
+        self.accepted + first + second + self.together.iter().sum::<u64>()
+    }
+
     /// With both headers, where they pass.
     fn count_turned_back(
         &mut self,
@@ -88,7 +93,6 @@ impl Joins {
         let accepted = first.is_none() && second.is_none();
         let ahead_of = |number: u64| headers.is_some_and(|it| breached(it).contains(&number));
         let second_ahead_of = |number: u64| first.is_none() && second.is_some() && ahead_of(number);
-        let alone = |number: u64| accepted && headers.is_some_and(|it| breached(it) == [number]);
         let sums = headers.map(|[one, other]| {
             [
                 one.period + other.period,
@@ -98,14 +102,14 @@ impl Joins {
             ]
         });
         let bounds = [LONGEST_PERIOD, MOST_STATES, MOST_STANDARDS, MOST_UNITS];
+        let modules = headers.map(|it| it.map(|header| header.modules));
+        let alike = accepted && modules.is_some_and(|[one, other]| one == other);
         let over_alone = |at: usize| {
-            let over = |sums: [u64; 4], other: usize| sums[other] > bounds[other];
-            let others = |sums| (0..4).all(|other| other == at || !over(sums, other));
-            let by_one = sums.is_some_and(|it| it[at] == bounds[at] + 1 && others(it));
-            by_one && alone(if at == 0 { 2 } else { 4 })
+            let over = |sums: [u64; 4]| (0..4).filter(move |&it| sums[it] > bounds[it]);
+            let by_one = |sums: [u64; 4]| sums[at] == bounds[at] + 1 && over(sums).eq([at]);
+            alike && sums.is_some_and(by_one)
         };
         let twice = |at: usize| accepted && sums.is_some_and(|it| it[at] == 2 * bounds[at]);
-        let modules = headers.map(|it| it.map(|header| header.modules));
         let is = [
             first.is_some() && second.is_some(),
             first.is_some() && first == second,
@@ -185,11 +189,9 @@ fn numbers(mask: usize) -> Vec<u64> {
 
 impl std::fmt::Display for Joins {
     fn fmt(&self, f: &mut std::fmt::Formatter) -> std::fmt::Result {
+        let (pairs, joined) = (self.pairs(), self.accepted);
+        writeln!(f, "{pairs} pairs of logs, {joined} joined")?;
         let [first, second] = [&self.of_first, &self.of_second].map(Verdicts::refused);
-        let together: u64 = self.together.iter().sum();
-        let refused = first + second + together;
-        let (all, accepted) = (self.accepted + refused, self.accepted);
-        writeln!(f, "{all} pairs of logs, {accepted} joined")?;
         writeln!(f, "refused for the first: {first} pairs")?;
         writeln!(f, "refused for the second: {second} pairs")?;
         for mask in 1..8 {

@@ -1,22 +1,25 @@
-//! Writes the generator's log of a seed and an index to standard output, or one of the slices of benchmarks for it.
+//! Writes the generator's log of a seed and an index to standard output, or one of the slices of benchmarks for it, or a log of a pair.
 //!
 //! generate SEED INDEX [SLICE]
+//! generate SEED PAIR first|second
 
 use difftest::arguments::two_numbers;
-use difftest::generator::{benchmarks, make};
+use difftest::generator::{benchmarks, make, pairs};
 use difftest::oracle::account;
 use std::io::Write;
 use std::process::ExitCode;
 
 fn main() -> ExitCode {
     let Some((seed, index)) = two_numbers() else {
-        eprintln!("usage: generate SEED INDEX [SLICE]");
+        eprintln!("usage: generate SEED INDEX [SLICE], or SEED PAIR first|second");
         return ExitCode::from(2);
     };
-    let log = make(seed, index).bytes;
-    let bytes = match std::env::args().nth(3) {
-        None => Some(log),
-        Some(number) => slice(seed, index, &log, &number),
+    let of_pair = |which: usize| Some(pairs::make(seed, index).logs[which].clone());
+    let bytes = match std::env::args().nth(3).as_deref() {
+        None => Some(make(seed, index).bytes),
+        Some("first") => of_pair(0),
+        Some("second") => of_pair(1),
+        Some(number) => slice(seed, index, number),
     };
     let written = bytes.is_some_and(|bytes| std::io::stdout().write_all(&bytes).is_ok());
     if written {
@@ -27,7 +30,8 @@ fn main() -> ExitCode {
 }
 
 /// None where there is no slice of this number.
-fn slice(seed: u64, index: u64, log: &[u8], number: &str) -> Option<Vec<u8>> {
-    let mut slices = benchmarks::make(seed, index, log, account(log).err()).into_iter();
+fn slice(seed: u64, index: u64, number: &str) -> Option<Vec<u8>> {
+    let log = make(seed, index).bytes;
+    let mut slices = benchmarks::make(seed, index, &log, account(&log).err()).into_iter();
     slices.nth(number.parse().ok()?).map(|slice| slice.bytes)
 }

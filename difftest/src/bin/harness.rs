@@ -124,7 +124,7 @@ fn main() -> ExitCode {
     ]
     .iter()
     .all(|missed| !missed);
-    let pairs = count.div_ceil(PAIR_ONCE_IN);
+    let pairs = tally.joins.pairs();
     println!("{count} logs and {pairs} pairs of logs compared, {differences} differences");
     ExitCode::from(u8::from(differences > 0 || !all_met))
 }
