@@ -213,7 +213,7 @@ fn added<const N: usize>([one, other]: [[u64; N]; 2]) -> [u64; N] {
 }
 
 /// What of two logs shows how their join is put together.
-pub const SHAPES: [&str; 31] = [
+pub const SHAPES: [&str; 32] = [
     "no standards in either",
     "standards in the first alone",
     "standards in the second alone",
@@ -243,6 +243,7 @@ pub const SHAPES: [&str; 31] = [
     "as many state records as there may be",
     "as many standards as there may be",
     "as many unit records as there may be",
+    "as many records of each kind as there may be",
     "as many modules as there may be",
     "a log of several standards and units joined with itself",
 ];
@@ -323,6 +324,8 @@ impl Joined<'_> {
             header.states == MOST_STATES,
             header.standards == MOST_STANDARDS,
             header.units == MOST_UNITS,
+            [header.states, header.standards, header.units]
+                == [MOST_STATES, MOST_STANDARDS, MOST_UNITS],
             header.modules == MOST_MODULES,
             self.first.bytes == self.second.bytes
                 && first.standards.len() > 1

@@ -488,6 +488,14 @@ fn shapes_of_pairs() {
         full([5_998, 500, 1_000], [1, 1, 1_000]),
         ["as many unit records as there may be"]
     );
+    let each = [
+        "as many state records as there may be",
+        "as many standards as there may be",
+        "as many unit records as there may be",
+        "as many records of each kind as there may be",
+    ];
+    assert_eq!(full([5_999, 511, 0], [1, 1, 2_000]), each);
+    assert_eq!(full([5_999, 511, 0], [1, 1, 1_999]), each[..2]);
     let made = met(
         &of_counts(10, 64, [64, 0, 0]),
         &of_counts(9, 64, [64, 0, 0]),
@@ -591,8 +599,8 @@ fn turned_back() {
 #[test]
 fn a_tally_of_nothing_misses_all() {
     let mut joins = Joins::default();
-    assert_eq!(joins.never_met().len(), 31 + 24 + 24 + 7 + 16);
-    assert_eq!(joins.never_met_with_buffers().len(), 102 + 3);
+    assert_eq!(joins.never_met().len(), 32 + 24 + 24 + 7 + 16);
+    assert_eq!(joins.never_met_with_buffers().len(), 103 + 3);
     (joins.short, joins.tried, joins.triples) = (1, 1, 1);
     assert_eq!(joins.never_met_with_buffers(), joins.never_met());
 }

@@ -21,16 +21,24 @@ const MOST: [u64; 3] = [MOST_STATES, MOST_STANDARDS, MOST_UNITS];
 /// A period in which every list has room for as many records as there may be.
 const ROOMY: u64 = 20_000;
 
-/// Once in so many pairs about bounds a list is filled.
-const FILLED_ONCE_IN: u64 = 2;
+/// Of so many pairs the first ones have full lists, each in its way: they take long, and a run has to meet each.
+const FILLED_IN_TURN: u64 = 200;
 
 /// The pair of a seed and an index.
 pub fn make(seed: u64, index: u64) -> Pair {
     // Other numbers than those that the log, the runs, the benchmarks and the lookups were made of.
     let mut rng = Prng::new(seed ^ (1 << 61), index);
+    match index % FILLED_IN_TURN {
+        turn @ 0..10 => {
+            let alone = index / FILLED_IN_TURN % 2 == 0;
+            return of_valid(&filled(&mut rng, turn, alone));
+        }
+        10 => return second_refused_ahead_of_counts(&mut rng),
+        _ => {}
+    }
     match rng.below(20) {
         0..=8 => of_valid(&days(&mut rng)),
-        9..=13 => of_valid(&about_bounds(&mut rng, FILLED_ONCE_IN)),
+        9..=13 => of_valid(&about_bounds(&mut rng)),
         14..=15 => first_refused(&mut rng),
         16..=18 => second_refused(&mut rng),
         _ => {
@@ -89,8 +97,7 @@ fn days(rng: &mut Prng) -> [Draft; 2] {
             [first, second]
         }
         3 => {
-            let mut second = next_day(rng, &first, most);
-            second.sort();
+            let second = next_day(rng, &first, most);
             [second, first]
         }
         _ => {
@@ -251,33 +258,34 @@ fn units(rng: &mut Prng, draft: &mut Draft, most: u64) {
 
 // ---------------------------------------------------------------- about the bounds of both together
 
-/// Two valid logs whose periods or counts make just what they may make, one more, or twice as much, or whose module counts differ; or several of these.
-fn about_bounds(rng: &mut Prng, filled_once_in: u64) -> [Draft; 2] {
+/// Two valid logs whose periods make the longest, 1 ms more or twice as much, or whose module counts differ, or both.
+fn about_bounds(rng: &mut Prng) -> [Draft; 2] {
     let mut drafts = days(rng);
     if rng.once_in(3) {
-        let modules = match rng.below(8) {
-            0 => [1, 64],
-            1 => [64, 1],
-            2..=4 => [drafts[0].modules, drafts[1].modules + 1],
-            5 => [drafts[0].modules + 1, drafts[1].modules],
-            _ => [drafts[0].modules, rng.between(1, MOST_MODULES)],
-        };
-        for (draft, modules) in drafts.iter_mut().zip(modules) {
-            fit(rng, draft, modules.min(MOST_MODULES));
-        }
+        other_modules(rng, &mut drafts);
     }
-    let filled = rng.once_in(filled_once_in);
-    if filled {
-        fill(rng, &mut drafts);
+    match rng.below(4) {
+        0 => stretch(rng, &mut drafts, LONGEST_PERIOD),
+        1 => stretch(rng, &mut drafts, LONGEST_PERIOD + 1),
+        2 => stretch(rng, &mut drafts, 2 * LONGEST_PERIOD),
+        _ => {}
     }
-    let sum = match rng.below(if filled { 8 } else { 4 }) {
-        0 => LONGEST_PERIOD,
-        1 => LONGEST_PERIOD + 1,
-        2 => 2 * LONGEST_PERIOD,
-        _ => 0,
-    };
-    stretch(rng, &mut drafts, sum);
     drafts
+}
+
+/// Module counts that differ, most by one.
+fn other_modules(rng: &mut Prng, drafts: &mut [Draft; 2]) {
+    let [one, other] = drafts.each_ref().map(|draft| draft.modules);
+    let modules = match rng.below(8) {
+        0 => [1, 64],
+        1 => [64, 1],
+        2..=4 => [one.min(63), one.min(63) + 1],
+        5 => [one.min(63) + 1, one.min(63)],
+        _ => [one, (other + rng.between(1, 63) - 1) % MOST_MODULES + 1],
+    };
+    for (draft, modules) in drafts.iter_mut().zip(modules) {
+        fit(rng, draft, modules);
+    }
 }
 
 /// Two numbers that make so much, neither of them below its least nor above `most`; the least themselves where these make as much or more.
@@ -299,31 +307,57 @@ fn stretch(rng: &mut Prng, drafts: &mut [Draft; 2], sum: u64) {
     }
 }
 
-/// More records, so that one list of both or more have together as many as there may be, one more, or twice as many.
-fn fill(rng: &mut Prng, drafts: &mut [Draft; 2]) {
-    for draft in drafts.iter_mut() {
-        draft.period = draft.period.max(ROOMY);
+/// Two valid logs of which every list or one has together as many records as there may be, one more, or twice as many, by turns. Where this is not alone,
+/// the module counts differ too, or the periods are too long, or both.
+fn filled(rng: &mut Prng, turn: u64, alone: bool) -> [Draft; 2] {
+    let mut drafts = roomy(rng);
+    if !alone && turn % 3 != 2 {
+        let modules = drafts[0].modules % MOST_MODULES + 1;
+        fit(rng, &mut drafts[1], modules);
     }
-    let one = rng.index(3);
-    let all = rng.once_in(12);
     // Units first: they may need one standard more.
     for list in [2, 1, 0] {
-        if list != one && !all {
-            continue;
+        let most = MOST[list];
+        match turn {
+            0 => fill(rng, &mut drafts, list, most),
+            _ if (turn - 1) % 3 != list as u64 => {}
+            1..=3 => fill(rng, &mut drafts, list, most),
+            4..=6 => fill(rng, &mut drafts, list, most + 1),
+            _ => fill(rng, &mut drafts, list, 2 * most),
         }
-        let sum = match rng.below(6) {
-            0..=2 => MOST[list],
-            3..=4 => MOST[list] + 1,
-            _ => 2 * MOST[list],
-        };
-        let counts = drafts.each_ref().map(|draft| draft.counts()[list]);
-        let parts = parts(rng, sum, counts, MOST[list]);
-        for (draft, due) in drafts.iter_mut().zip(parts) {
-            match list {
-                0 => add_states(rng, draft, due),
-                1 => add_standards(rng, draft, due),
-                _ => add_units(rng, draft, due),
-            }
+    }
+    if !alone && turn % 3 != 1 {
+        stretch(rng, &mut drafts, LONGEST_PERIOD + 1);
+    }
+    drafts
+}
+
+/// Two logs of one tool in whose periods each list has room for as many records as there may be.
+fn roomy(rng: &mut Prng) -> [Draft; 2] {
+    loop {
+        let mut drafts = days(rng);
+        for draft in &mut drafts {
+            draft.period = draft.period.max(ROOMY);
+        }
+        let [one, other] = drafts.each_ref().map(|draft| draft.period);
+        let [first, second] = drafts.each_ref().map(Draft::counts);
+        // Fewer records than most lists have to have.
+        let few = (0..3).all(|list| first[list] + second[list] < MOST[list] / 2);
+        if few && one + other <= LONGEST_PERIOD {
+            return drafts;
+        }
+    }
+}
+
+/// More records, so that this list of both has together so many.
+fn fill(rng: &mut Prng, drafts: &mut [Draft; 2], list: usize, sum: u64) {
+    let counts = drafts.each_ref().map(|draft| draft.counts()[list]);
+    let parts = parts(rng, sum, counts, MOST[list]);
+    for (draft, due) in drafts.iter_mut().zip(parts) {
+        match list {
+            0 => add_states(rng, draft, due),
+            1 => add_standards(rng, draft, due),
+            _ => add_units(rng, draft, due),
         }
     }
 }
@@ -404,7 +438,7 @@ fn valid(rng: &mut Prng) -> [Draft; 2] {
     if rng.once_in(2) {
         days(rng)
     } else {
-        about_bounds(rng, 8 * FILLED_ONCE_IN)
+        about_bounds(rng)
     }
 }
 
@@ -430,5 +464,20 @@ fn second_refused(rng: &mut Prng) -> Pair {
     Pair {
         logs: [first.bytes(), second.bytes()],
         expected: Expected::Refused(refusal.of_second()),
+    }
+}
+
+/// The second refused for one of its records, where both together have too many.
+fn second_refused_ahead_of_counts(rng: &mut Prng) -> Pair {
+    let turn = rng.between(4, 9);
+    let [first, second] = filled(rng, turn, true);
+    loop {
+        let (second, refusal) = faults::one(rng, &second);
+        if refusal.number > 5 {
+            return Pair {
+                logs: [first.bytes(), second.bytes()],
+                expected: Expected::Refused(refusal.of_second()),
+            };
+        }
     }
 }
