@@ -457,13 +457,21 @@ fn first_refused(rng: &mut Prng) -> Pair {
     }
 }
 
+/// What the second's refusal is expected to be told as.
+fn told_of_second(refusal: Refusal) -> Expected {
+    Expected::Refused(Refusal {
+        list: refusal.list + 10,
+        ..refusal
+    })
+}
+
 /// The first accepted, and the second refused.
 fn second_refused(rng: &mut Prng) -> Pair {
     let [first, second] = valid(rng);
     let (second, refusal) = faults::one(rng, &second);
     Pair {
         logs: [first.bytes(), second.bytes()],
-        expected: Expected::Refused(refusal.of_second()),
+        expected: told_of_second(refusal),
     }
 }
 
@@ -476,7 +484,7 @@ fn second_refused_ahead_of_counts(rng: &mut Prng) -> Pair {
         if refusal.number > 5 {
             return Pair {
                 logs: [first.bytes(), second.bytes()],
-                expected: Expected::Refused(refusal.of_second()),
+                expected: told_of_second(refusal),
             };
         }
     }
