@@ -6,3 +6,4 @@ pub mod AppendixExample
 pub mod ModuleCases
 pub mod BarsByHand
 pub mod RevisionsByHand
+pub mod JoinsByHand

@@ -5,3 +5,4 @@ pub mod Appendix
 pub mod Modules
 pub mod Bars
 pub mod Revisions
+pub mod Joins
