@@ -1,14 +1,14 @@
 -- The benchmarks tested and added, one by one; no sum of them comes near 2 ^ 63.
 -- Assumes nothing.
 use mathlib.Core.Path.{◌≡◌, refl, ap, ◌∙◌}
-use mathlib.Core.List.{List, [], ◌∷◌, ◌++◌, map, map-append}
+use mathlib.Core.List.{List, [], ◌∷◌, ◌++◌, map}
 use Prim.Native.Nat.{ℕ, zero, suc, ◌+◌, ◌*◌, ◌^◌, ◌≤◌, ◌<◌}
 use native.Mathlib.Nat.{mul-le-mul}
 use native.Mathlib.Omega.{arith}
 use Rattle.bits.proofs.Fields.{field_lt}
 use Rattle.records.specs.declared.Header.{Header}
 use Rattle.records.specs.Log.{Log, up_to, header_of, standard_at, decode}
-use Rattle.records.proofs.UpTo.{length_up_to, up_to_at}
+use Rattle.records.proofs.UpTo.{length_up_to, up_to_at, map-up_to}
 use Rattle.records.proofs.Widths.{standard-time-low}
 use Rattle.rules.specs.Quantities.{sum_below}
 use Rattle.rules.proofs.SumLaws.{sum_more, sum_low}
@@ -21,11 +21,6 @@ use Rattle.benchmarks.specs.Taking.{sums_to, grown, Narrow, Below, Lent}
 pub narrow : (b : List ℕ) (p : ℕ) → Narrow (benchmark_from b p)
 unfolding benchmark_from
 narrow b p = (field_lt b p 27, field_lt b (p + 27) 27, field_lt b (p + 54) 27, field_lt b (p + 81) 27)
-
-map-up_to : {A : Type 0} (f : A → ℕ) (at : ℕ → A) (n : ℕ) → map f (up_to at n) ≡ up_to (λ i. f (at i)) n
-unfolding up_to
-map-up_to f at zero = refl
-map-up_to f at (suc n) = map-append f (up_to at n) (at n ∷ []) ∙ ap (λ (xs : List ℕ). xs ++ (f (at n) ∷ [])) (map-up_to f at n)
 
 module _ (s : List ℕ) (h : Header) (e : h ≡ header_of s) where
   pub count_is : standards_in (decode s) ≡ h.standards

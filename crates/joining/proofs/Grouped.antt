@@ -7,6 +7,7 @@ use mathlib.Core.List.Memᴰ
 use mathlib.Core.List.{List, [], ◌∷◌, ◌++◌, map, append_assoc, Memᴰ}
 use Prim.Native.Nat.{ℕ, ◌+◌}
 use native.Mathlib.Nat.{add_assoc}
+use Rattle.std.proofs.lemmas.List.{map-append}
 use Rattle.std.specs.declared.result.Result.TheVariants.{Ok}
 use Rattle.records.specs.declared.StateRecord.{StateRecord}
 use Rattle.records.specs.declared.Standard.{Standard}
@@ -26,19 +27,18 @@ use Rattle.joining.proofs.JoinedBytes.{alike, joined-log}
 use Rattle.joining.proofs.JoinedLog.{joined-sound}
 use Rattle.joining.proofs.JoinedStandards.{Moved, origin, map-member}
 use Rattle.joining.proofs.Merging.{merged-first, merged-second}
-use Rattle.joining.proofs.MovedLists.{map-append}
 
 -- ---- records that follow
 
 -- one move and then another is one move
-map-map : {A : Type 0} (f g h : A → A) → ((r : A) → h r ≡ f (g r)) → (rs : List A) → map h rs ≡ map f (map g rs)
-map-map f g h e [] = refl
-map-map f g h e (r ∷ rs) = ap₂ ◌∷◌ (e r) (map-map f g h e rs)
+twice-moved : {A : Type 0} (f g h : A → A) → ((r : A) → h r ≡ f (g r)) → (rs : List A) → map h rs ≡ map f (map g rs)
+twice-moved f g h e [] = refl
+twice-moved f g h e (r ∷ rs) = ap₂ ◌∷◌ (e r) (twice-moved f g h e rs)
 
 followed : {A : Type 0} (f g h : A → A) → ((r : A) → h r ≡ f (g r)) → (xs ys zs : List A) → (xs ++ map f ys) ++ map h zs ≡ xs ++ map f (ys ++ map g zs)
 followed f g h e xs ys zs =
     append_assoc xs (map f ys) (map h zs)
-    ∙ ap (λ (r : List _). xs ++ r) (ap (λ (r : List _). map f ys ++ r) (map-map f g h e zs) ∙ sym (map-append f ys (map g zs)))
+    ∙ ap (λ (r : List _). xs ++ r) (ap (λ (r : List _). map f ys ++ r) (twice-moved f g h e zs) ∙ sym (map-append f ys (map g zs)))
 
 -- ---- the standards
 

@@ -20,12 +20,12 @@ use Rattle.rules.specs.declared.LogList.TheVariants.{NoList, States, Standards, 
 use Rattle.rules.specs.declared.Refusal.{Refusal}
 use Rattle.rules.specs.Grounds.{Verdict, refusal, ground, ◌then◌}
 use Rattle.rules.specs.Names.{number_of, list_number, list_of_second}
-use Rattle.rules.specs.Refusals.{Row, row, log_refusals, of_second, join_refusals, is_row, Known, OfLog}
+use Rattle.rules.specs.Refusals.{Row, row, log_refusals, rows_of_second, join_refusals, is_row, Known, OfLog}
 use Rattle.rules.specs.Verdict.{bad_period, bad_counts, verdict}
 use Rattle.rules.proofs.FirstGround.{refused-not}
 use Rattle.rules.proofs.KnownRefusals.{log-refusal}
 use Rattle.joining.specs.Joined.{joined_log}
-use Rattle.joining.specs.Joins.{shifted, of_second as second_verdict, join_grounds, joined_bytes, join_verdict, Shifted, WhyRefused, OfJoin}
+use Rattle.joining.specs.Joins.{shifted, of_second, join_grounds, joined_bytes, join_verdict, Shifted, WhyRefused, OfJoin}
 use Rattle.joining.proofs.JoinedBytes.{second-accepted}
 
 -- ---- a refusal in a sequence of grounds
@@ -38,7 +38,7 @@ ground-refused : (g : Ground) (l : LogList) (p : ℕ) (b : Bool) (x : Refusal) �
 ground-refused g l p true x e = (refl, cc)
 ground-refused g l p false x e = absurd (refused-not (sym e))
 
-second-refused : (v : Verdict) (x : Refusal) → second_verdict v ≡ Err x → (y : Refusal) × (v ≡ Err y) × (x ≡ shifted y)
+second-refused : (v : Verdict) (x : Refusal) → of_second v ≡ Err x → (y : Refusal) × (v ≡ Err y) × (x ≡ shifted y)
 second-refused (Ok tt) x e = absurd (refused-not (sym e))
 second-refused (Err y) x e = (y, refl, cc)
 
@@ -117,22 +117,22 @@ module _ (s t : List ℕ) (room : ℕ) (x : Refusal) where
 
   pub why-refused : join_verdict s t room ≡ Err x → WhyRefused s t room x
   unfolding join_verdict
-  why-refused e = first (then-refused (verdict s) (second_verdict (verdict t) then together then last) x e)
+  why-refused e = first (then-refused (verdict s) (of_second (verdict t) then together then last) x e)
     where
       third : verdict s ≡ Ok tt → verdict t ≡ Ok tt → (together ≡ Err x) ⊎ ((together ≡ Ok tt) × (last ≡ Err x)) → WhyRefused s t room x
       third a b (inl r) = of-both a b r
       third a b (inr r) = let g = ground-refused ShortBuffer NoList 0 (ltb room (length (joined_bytes s t))) x r.1 in WhyRefused.short a b (ltb-true room (length (joined_bytes s t)) g.0) g.1
 
-      second : verdict s ≡ Ok tt → (second_verdict (verdict t) ≡ Err x) ⊎ ((second_verdict (verdict t) ≡ Ok tt) × (together then last ≡ Err x)) → WhyRefused s t room x
+      second : verdict s ≡ Ok tt → (of_second (verdict t) ≡ Err x) ⊎ ((of_second (verdict t) ≡ Ok tt) × (together then last ≡ Err x)) → WhyRefused s t room x
       second a (inl r) =
           let w = second-refused (verdict t) x r in
           let o : OfLog t w.0 = log-refusal t w.0 w.1 in
           WhyRefused.second a w.0 o (shifted-so w.0 x o.known w.2)
       second a (inr r) = third a (second-accepted (verdict t) r.0) (then-refused together last x r.1)
 
-      first : (verdict s ≡ Err x) ⊎ ((verdict s ≡ Ok tt) × (second_verdict (verdict t) then together then last ≡ Err x)) → WhyRefused s t room x
+      first : (verdict s ≡ Err x) ⊎ ((verdict s ≡ Ok tt) × (of_second (verdict t) then together then last ≡ Err x)) → WhyRefused s t room x
       first (inl r) = WhyRefused.of_first (log-refusal s x r)
-      first (inr r) = second r.0 (then-refused (second_verdict (verdict t)) (together then last) x r.1)
+      first (inr r) = second r.0 (then-refused (of_second (verdict t)) (together then last) x r.1)
 
 -- ---- the table
 
@@ -152,7 +152,7 @@ row-right : (rs qs : List Row) (n l : ℕ) → T (is_row qs n l) → T (is_row (
 row-right [] qs n l h = h
 row-right (r ∷ rs) qs n l h = or-right (eqb n r.number && eqb l r.list) _ (row-right rs qs n l h)
 
-row-shifted : (rs : List Row) (n l : ℕ) → T (is_row rs n l) → T (is_row (of_second rs) n (l + 10))
+row-shifted : (rs : List Row) (n l : ℕ) → T (is_row rs n l) → T (is_row (rows_of_second rs) n (l + 10))
 row-shifted [] n l h = h
 row-shifted (r ∷ rs) n l h = rw (same (ℕ_discrete l r.list)) (go (eqb n r.number && eqb l r.list) h (row-shifted rs n l))
   where
@@ -160,7 +160,7 @@ row-shifted (r ∷ rs) n l h = rw (same (ℕ_discrete l r.list)) (go (eqb n r.nu
     same (yes e) = rw (eq-eqb l r.list e, eq-eqb (l + 10) (r.list + 10) (omega arith))
     same (no e) = rw (ne_eqb l r.list e, ne_eqb (l + 10) (r.list + 10) (λ h. e (omega arith)))
 
-    go : (b : Bool) → T (b || is_row rs n l) → (T (is_row rs n l) → T (is_row (of_second rs) n (l + 10))) → T (b || is_row (of_second rs) n (l + 10))
+    go : (b : Bool) → T (b || is_row rs n l) → (T (is_row rs n l) → T (is_row (rows_of_second rs) n (l + 10))) → T (b || is_row (rows_of_second rs) n (l + 10))
     go true h rest = tt
     go false h rest = rest h
 
@@ -172,11 +172,11 @@ module _ (s t : List ℕ) (room : ℕ) (x : Refusal) where
   fixed y h q = subst (λ (z : Refusal). Known join_refusals z) (sym q) h
 
   known : WhyRefused s t room x → Known join_refusals x
-  known (WhyRefused.of_first o) = row-left log_refusals (of_second log_refusals ++ own) (number_of x.ground) (list_number x.list) o.known
+  known (WhyRefused.of_first o) = row-left log_refusals (rows_of_second log_refusals ++ own) (number_of x.ground) (list_number x.list) o.known
   known (WhyRefused.second a y o h) =
       rw (h.number, h.list)
-      (row-right log_refusals (of_second log_refusals ++ own) (number_of y.ground) (list_number y.list + 10)
-      (row-left (of_second log_refusals) own (number_of y.ground) (list_number y.list + 10) (row-shifted log_refusals (number_of y.ground) (list_number y.list) o.known)))
+      (row-right log_refusals (rows_of_second log_refusals ++ own) (number_of y.ground) (list_number y.list + 10)
+      (row-left (rows_of_second log_refusals) own (number_of y.ground) (list_number y.list + 10) (row-shifted log_refusals (number_of y.ground) (list_number y.list) o.known)))
   known (WhyRefused.unlike a b h q) = fixed (refusal UnlikeTools NoList 0) tt q
   known (WhyRefused.period a b h q) = fixed (refusal Period NoList 0) tt q
   known (WhyRefused.counts a b h q) = fixed (refusal Counts NoList 0) tt q

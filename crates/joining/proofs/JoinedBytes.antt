@@ -3,7 +3,7 @@
 use mathlib.Core.Path.{◌≡◌, refl, sym, ◌∙◌}
 use mathlib.Core.Bool.{not}
 use mathlib.Core.List.{List, map}
-use Prim.Native.Nat.{ℕ, ◌+◌, ◌*◌}
+use Prim.Native.Nat.{ℕ, ◌+◌, ◌*◌, ◌≤◌}
 use native.Mathlib.Omega.{arith}
 use lib.Dec.{eqb}
 use lib.ListN.{length, length-append}
@@ -23,28 +23,14 @@ use Rattle.rules.specs.Lists.{Each}
 use Rattle.rules.proofs.Each.{each-append, each-map}
 use Rattle.sound.proofs.Encoded.{encoded-says, encoded-accepted}
 use Rattle.judging.proofs.Bounds.{good-period, good-counts}
-use Rattle.sound.specs.Bounds.{Bounded, StandardFits, UnitFits, Writable, Read}
+use Rattle.sound.specs.Bounds.{Bounded, StandardNarrow, UnitNarrow, Writable, Read}
 use Rattle.joining.specs.Joined.{state_up, standard_up, unit_up, joined_log}
 use Rattle.joining.specs.Joins.{of_second, join_grounds, joined_bytes, Joined}
-use Rattle.joining.proofs.MovedLists.{length-map}
-use Rattle.joining.proofs.Merging.{merged-length, merged-each}
-use Rattle.joining.proofs.JoinedLog.{sums-added, tool-added, credits-kept, joined-sound}
-
--- ---- how many records
+use Rattle.joining.proofs.Counted.{states-counted, standards-counted, units-counted}
+use Rattle.joining.proofs.Merging.{merged-each}
+use Rattle.joining.proofs.JoinedLog.{sums-added, tool-times-added, tool-added, credits-kept, joined-sound}
 
 module _ (a b : Log) where
-  pub states-counted : length (joined_log a b).states ≡ length a.states + length b.states
-  unfolding joined_log
-  states-counted = length-append a.states _ ∙ rw (length-map (state_up a.period) b.states)
-
-  pub standards-counted : length (joined_log a b).standards ≡ length a.standards + length b.standards
-  unfolding joined_log
-  standards-counted = merged-length standard_key a.standards (map (standard_up a.period) b.standards) ∙ rw (length-map (standard_up a.period) b.standards)
-
-  pub units-counted : length (joined_log a b).units ≡ length a.units + length b.units
-  unfolding joined_log
-  units-counted = length-append a.units _ ∙ rw (length-map (unit_up a.period) b.units)
-
   pub joined-length : length (encode (joined_log a b)) ≡ 10 + 6 * (length a.states + length b.states) + 10 * (length a.standards + length b.standards) + 11 * (length a.units + length b.units)
   joined-length = length-encode (joined_log a b) ∙ rw (states-counted, standards-counted, units-counted)
 
@@ -88,20 +74,24 @@ module _ (s t : List ℕ) where
         let c = good-counts (header_for (joined_log a b)) (not-met Counts NoList 0 _ (then-right long many e2)) in
         record { some_time = p.0; short = p.1; some_module = x.writable.bounded.some_module; few = x.writable.bounded.few; states = c.0; standards = c.1; units = c.2 }
 
-    standards-fit : Each StandardFits (joined_log a b).standards
+    standards-fit : Each StandardNarrow (joined_log a b).standards
     unfolding joined_log
     standards-fit =
-        merged-each standard_key StandardFits a.standards (map (standard_up a.period) b.standards) x.writable.standards
-        (each-map (standard_up a.period) StandardFits StandardFits (λ r h. record { recipe = h.recipe; theoretical = h.theoretical }) b.standards y.writable.standards)
+        merged-each standard_key StandardNarrow a.standards (map (standard_up a.period) b.standards) x.writable.standards
+        (each-map (standard_up a.period) StandardNarrow StandardNarrow (λ r h. record { recipe = h.recipe; theoretical = h.theoretical }) b.standards y.writable.standards)
 
-    units-fit : Each UnitFits (joined_log a b).units
+    units-fit : Each UnitNarrow (joined_log a b).units
     unfolding joined_log
     units-fit =
-        each-append UnitFits a.units _ x.writable.units
-        (each-map (unit_up a.period) UnitFits UnitFits (λ r h. record { recipe = h.recipe; actual = h.actual; effective = h.effective }) b.units y.writable.units)
+        each-append UnitNarrow a.units _ x.writable.units
+        (each-map (unit_up a.period) UnitNarrow UnitNarrow (λ r h. record { recipe = h.recipe; actual = h.actual; effective = h.effective }) b.units y.writable.units)
 
     pub joined-writable : Writable (joined_log a b)
     joined-writable = record { sound = joined-sound a b x.writable.sound y.writable.sound alike; bounded = bounded; standards = standards-fit; units = units-fit }
+
+    most : length (joined_bytes s t) ≤ 63130
+    unfolding joined_bytes
+    most = let w = bounded in omega (arith, length-encode (joined_log a b), w.states, w.standards, w.units)
 
     pub joined-log : Joined s t
     unfolding joined_bytes
@@ -110,7 +100,9 @@ module _ (s t : List ℕ) where
           says = encoded-says (joined_log a b) joined-writable;
           accepted = encoded-accepted (joined_log a b) joined-writable;
           size = joined-size x y;
+          most = most;
           sums = sums-added a b x.writable.sound y.writable.sound alike;
           tool = tool-added a b x.writable.sound y.writable.sound alike;
+          tool_times = tool-times-added a b x.writable.sound y.writable.sound alike;
           credits = credits-kept a b x.writable.sound y.writable.sound alike;
         }

@@ -16,8 +16,9 @@ use Rattle.rules.specs.Sequence.{state_key, standard_key, unit_key}
 use Rattle.rules.specs.Theoretical.{theoretical_time}
 use Rattle.rules.specs.RecordGrounds.{first_time, is_opening}
 use Rattle.e79.specs.declared.Quantities.{Quantities}
-use Rattle.rules.specs.Names.{productive}
-use Rattle.rules.specs.Quantities.{sum_below, time_in, uptime, actual_time, effective_time, of_tool}
+use Rattle.rules.specs.declared.StateTimes.{StateTimes}
+use Rattle.rules.specs.Names.{productive, standby, engineering, scheduled_down, unscheduled_down, nonscheduled}
+use Rattle.rules.specs.Quantities.{sum_below, time_in, uptime, actual_time, effective_time, of_tool, tool_times}
 use Rattle.rules.proofs.SumLaws.{sum_same, sum-add}
 use Rattle.rules.specs.Credited.{no_standard, nth, credited_to}
 use Rattle.rules.proofs.Booleans.{false-true}
@@ -25,11 +26,12 @@ use Rattle.rules.specs.Lists.{Each, Before, Rises}
 use Rattle.rules.proofs.Each.{each-so, each-append, each-map, each-image, rises-append, rises-map}
 use Rattle.rules.specs.Sound.{StateSound, StandardSound, UnitSound, Sound}
 use Rattle.sound.proofs.Force.{at-member, member-at, not-none}
-use Rattle.joining.specs.Joined.{state_up, standard_up, unit_up, joined_log, added, SumsAdded, IsOfFirst, IsOfSecond, CreditsKept}
+use Rattle.joining.specs.Joined.{state_up, standard_up, unit_up, joined_log, added, times_added, SumsAdded, IsOfFirst, IsOfSecond, CreditsKept}
 use Rattle.joining.proofs.Merging.{merged-each, merged-first, merged-second}
 use Rattle.joining.proofs.Up.{state-up, unit-up, state-before, unit-before}
 use Rattle.joining.proofs.JoinedTimes.{times-added, states-added}
 use Rattle.joining.proofs.JoinedStandards.{origin, both-rise, map-member}
+use Rattle.joining.proofs.Counted.{standards-counted}
 use Rattle.joining.proofs.JoinedUnits.{first-judged, second-judged, theoretical-added, first-kept, second-kept}
 
 -- a module that a list opens is opened by it with more behind
@@ -72,10 +74,6 @@ module _ (a b : Log) (sa : Sound a) (sb : Sound b) (alike : b.modules ≡ a.modu
   unfolding joined_log
   period-added = refl
 
-  modules-kept : (joined_log a b).modules ≡ a.modules
-  unfolding joined_log
-  modules-kept = refl
-
   pub sums-added : (m : ℕ) → m < a.modules → SumsAdded a b m
   sums-added m h =
       record {
@@ -88,6 +86,16 @@ module _ (a b : Log) (sa : Sound a) (sb : Sound b) (alike : b.modules ≡ a.modu
   sum-added : (f g h : ℕ → ℕ) → ((m : ℕ) → m < a.modules → f m ≡ g m + h m) → sum_below f a.modules ≡ sum_below g a.modules + sum_below h b.modules
   sum-added f g h e = sum_same f (λ m. g m + h m) a.modules e ∙ sym (sum-add g h a.modules) ∙ ap (λ (n : ℕ). sum_below g a.modules + sum_below h n) (sym alike)
 
+  tool-time : (k : ℕ) → sum_below (time_in (joined_log a b) k) a.modules ≡ sum_below (time_in a k) a.modules + sum_below (time_in b k) b.modules
+  tool-time k = sum-added (time_in (joined_log a b) k) (time_in a k) (time_in b k) (λ m h. states-added a b m (opens m h) k)
+
+  pub tool-times-added : tool_times (joined_log a b) ≡ times_added (tool_times a) (tool_times b)
+  unfolding joined_log
+  tool-times-added =
+      let six : (x y : StateTimes) → x.productive ≡ y.productive → x.standby ≡ y.standby → x.engineering ≡ y.engineering → x.scheduled ≡ y.scheduled → x.unscheduled ≡ y.unscheduled → x.nonscheduled ≡ y.nonscheduled → x ≡ y
+      = λ x y p s e d u n. λ i. record { productive = p i; standby = s i; engineering = e i; scheduled = d i; unscheduled = u i; nonscheduled = n i } in
+      six _ _ (tool-time productive) (tool-time standby) (tool-time engineering) (tool-time scheduled_down) (tool-time unscheduled_down) (tool-time nonscheduled)
+
   pub tool-added : of_tool (joined_log a b) ≡ added (of_tool a) (of_tool b)
   unfolding joined_log
   tool-added =
@@ -96,7 +104,7 @@ module _ (a b : Log) (sa : Sound a) (sb : Sound b) (alike : b.modules ≡ a.modu
       five _ _
       (sum-added (λ m. (joined_log a b).period) (λ m. a.period) (λ m. b.period) (λ m h. period-added))
       (sum-added (uptime (joined_log a b)) (uptime a) (uptime b) uptime-added)
-      (sum-added (time_in (joined_log a b) productive) (time_in a productive) (time_in b productive) (λ m h. states-added a b m (opens m h) productive))
+      (tool-time productive)
       (sum-added (actual_time (joined_log a b)) (actual_time a) (actual_time b) (λ m h. actual-added m))
       (sum-added (effective_time (joined_log a b)) (effective_time a) (effective_time b) (λ m h. effective-added m))
 
@@ -114,6 +122,7 @@ module _ (a b : Log) (sa : Sound a) (sb : Sound b) (alike : b.modules ≡ a.modu
   unfolding joined_log credited_to
   credits-kept =
       record {
+        counted = standards-counted a b;
         first = λ j l.
             let w = member-at no_standard (merged-first standard_key (map (standard_up a.period) b.standards) (at-member a.standards j no_standard l)) in
             (w.0, record { inside = w.1; listed = l; same = w.2 });

@@ -13,7 +13,8 @@ use Rattle.rules.specs.Time.{code_at, is_state, state_time}
 use Rattle.rules.specs.RecordGrounds.{first_time, is_opening}
 use Rattle.rules.specs.Quantities.{time_in}
 use Rattle.rules.proofs.Each.{each-image}
-use Rattle.sound.proofs.Codes.{count-add, count-agree, or_else, found-first, code-append, code-later, opened-found}
+use Rattle.states.proofs.Count.{count-agree}
+use Rattle.sound.proofs.Codes.{count-add, or_else, found-first, code-append, code-later, opened-found}
 use Rattle.joining.specs.Joined.{state_up, joined_log, time_with}
 use Rattle.joining.proofs.Up.{code-up}
 

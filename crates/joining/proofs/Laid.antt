@@ -33,7 +33,8 @@ use Rattle.joining.specs.Joined.{state_up, unit_up, joined_log}
 use Rattle.joining.specs.Joins.{join_grounds, joined_bytes}
 use Rattle.joining.specs.Parts.{joined_header, header_verdict}
 use Rattle.joining.specs.Turns.{Mergeable}
-use Rattle.joining.proofs.JoinedBytes.{states-counted, standards-counted, units-counted, joined-length, joined-writable}
+use Rattle.joining.proofs.Counted.{states-counted, standards-counted, units-counted}
+use Rattle.joining.proofs.JoinedBytes.{joined-length, joined-writable}
 use Rattle.joining.proofs.Turning.{both}
 
 -- ---- the bytes

@@ -4,6 +4,7 @@ pub mod Up
 pub mod JoinedTimes
 pub mod JoinedStandards
 pub mod JoinedUnits
+pub mod Counted
 pub mod JoinedLog
 pub mod JoinedBytes
 pub mod JoinRefusals

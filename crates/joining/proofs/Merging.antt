@@ -118,11 +118,6 @@ module _ {A : Type 0} (key : A → List ℕ) where
 
   -- ---- taken from the front, as a loop that writes it does
 
-  pub merge-done : (ss : List A) → Rises key ss → merged key [] ss ≡ ss
-  unfolding merged
-  merge-done [] v = refl
-  merge-done (s ∷ ss) v = rw (merge-done ss v.1) (placed-front s ss v.0)
-
   pub merge-first : (r : A) (rs ss : List A) → Each (Before key r) ss → merged key (r ∷ rs) ss ≡ r ∷ merged key rs ss
   unfolding merged placed_in
   merge-first r rs [] h = refl

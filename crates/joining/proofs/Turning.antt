@@ -10,6 +10,7 @@ use native.Mathlib.Omega.{arith}
 use lib.Dec.{ltb}
 use lib.ListN.{length, get_or, drop, drop_of_length-le, length-append}
 use borrow.Author.Tests.{lt-ltb, ltb-true, ltb-false}
+use Rattle.std.proofs.lemmas.List.{map-append, length-map}
 use Rattle.bits.specs.Bits.{field}
 use Rattle.bits.proofs.Fields.{field-split, front}
 use Rattle.filling.specs.Buffer.{Put}
@@ -20,7 +21,7 @@ use Rattle.records.specs.Encode.{standard_slots, standard_bytes, joined}
 use Rattle.records.specs.Fields.{standard_from}
 use Rattle.records.specs.Log.{standard_at, up_to}
 use Rattle.records.proofs.RoundTrip.{joined-append, length_joined}
-use Rattle.records.proofs.UpTo.{length_up_to, up_to_at}
+use Rattle.records.proofs.UpTo.{length_up_to, up_to_at, map-up_to}
 use Rattle.records.proofs.Widths.{standard-fits}
 use Rattle.rules.specs.Keys.{standard_number, StandardFits}
 use Rattle.rules.specs.Lists.{Before, Rises}
@@ -32,7 +33,6 @@ use Rattle.joining.specs.Joined.{standard_up}
 use Rattle.joining.specs.Merged.{merged}
 use Rattle.joining.specs.Turns.{Mergeable, Left, Next}
 use Rattle.joining.proofs.MergeLoop.{take-first, take-second}
-use Rattle.joining.proofs.MovedLists.{map-append, length-map}
 use Rattle.joining.proofs.Up.{standard-up}
 
 -- ---- a standard's key as a number
@@ -83,11 +83,6 @@ module _ (a : ℕ → Standard) (n : ℕ) (b : ℕ → Standard) (k p i j : ℕ)
 
 -- ---- what is written
 
-pub map-up_to : {A : Type 0} (f : A → A) (at : ℕ → A) (n : ℕ) → map f (up_to at n) ≡ up_to (λ i. f (at i)) n
-unfolding up_to
-map-up_to f at zero = refl
-map-up_to f at (suc n) = map-append f (up_to at n) (at n ∷ []) ∙ ap (λ (r : List _). r ++ (f (at n) ∷ [])) (map-up_to f at n)
-
 abbrev pub both : (ℕ → Standard) → ℕ → (ℕ → Standard) → ℕ → ℕ → List Standard
 both a n b k p = merged standard_key (up_to a n) (map (standard_up p) (up_to b k))
 
@@ -123,7 +118,7 @@ module _ (a : ℕ → Standard) (n : ℕ) (b : ℕ → Standard) (k p : ℕ) (s 
     second-rises = rises-map standard_key (standard_up p) (Before standard_key) (standard-up p) (up_to b k) (rises standard_key (up_to b k) m.second_rises)
 
     second-length : length ss ≡ k
-    second-length = length-map (standard_up p) (up_to b k) ∙ length_up_to b k
+    second-length = length-map (up_to b k) (standard_up p) ∙ length_up_to b k
 
     module _ (d : Standard) (i j r q : ℕ) (t u : List ℕ) (w : MergedSoFar a n b k p s at i j r t) where
       first-at : i < n → get_or (up_to a n) i d ≡ a i

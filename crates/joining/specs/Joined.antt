@@ -8,6 +8,7 @@ use Rattle.records.specs.declared.Standard.{Standard}
 use Rattle.records.specs.declared.UnitRecord.{UnitRecord}
 use Rattle.records.specs.Log.{Log}
 use Rattle.e79.specs.declared.Quantities.{Quantities}
+use Rattle.rules.specs.declared.StateTimes.{StateTimes}
 use Rattle.rules.specs.Sequence.{standard_key}
 use Rattle.rules.specs.Time.{code_at, count}
 use Rattle.rules.specs.Quantities.{time_in, of_module}
@@ -57,6 +58,17 @@ added q r =
       effective = q.effective + r.effective;
     }
 
+abbrev pub times_added : StateTimes → StateTimes → StateTimes
+times_added t u =
+    record {
+      productive = t.productive + u.productive;
+      standby = t.standby + u.standby;
+      engineering = t.engineering + u.engineering;
+      scheduled = t.scheduled + u.scheduled;
+      unscheduled = t.unscheduled + u.unscheduled;
+      nonscheduled = t.nonscheduled + u.nonscheduled;
+    }
+
 -- module m's times and quantities are those of the two logs, added
 pub record SumsAdded (a b : Log) (m : ℕ) : Type 0 where
   pub times : (test : Option ℕ → Bool) → time_with test (joined_log a b) m ≡ time_with test a m + time_with test b m
@@ -76,6 +88,7 @@ pub record IsOfSecond (a b : Log) (i j : ℕ) : Type 0 where
 
 -- each standard of the two logs is one of the joined log's, which has no others, and keeps its credited units
 pub record CreditsKept (a b : Log) : Type 0 where
+  pub counted : length (joined_log a b).standards ≡ length a.standards + length b.standards
   pub first : (j : ℕ) → j < length a.standards → (i : ℕ) × IsOfFirst a b i j
   pub second : (j : ℕ) → j < length b.standards → (i : ℕ) × IsOfSecond a b i j
   pub no_other : (i : ℕ) → i < length (joined_log a b).standards → ((j : ℕ) × IsOfFirst a b i j) ⊎ ((j : ℕ) × IsOfSecond a b i j)

@@ -11,10 +11,10 @@ use Rattle.rules.specs.declared.LogList.TheVariants.{NoList}
 use Rattle.rules.specs.Answers.{FrontWritten}
 use Rattle.rules.specs.Grounds.{Verdict, ground, refusal, ◌then◌}
 use Rattle.rules.specs.Names.{number_of, list_number, list_of_second}
-use Rattle.rules.specs.Quantities.{of_tool}
+use Rattle.rules.specs.Quantities.{of_tool, tool_times}
 use Rattle.rules.specs.Refusals.{OfLog, Known, join_refusals}
 use Rattle.rules.specs.Verdict.{bad_period, bad_counts, verdict}
-use Rattle.joining.specs.Joined.{joined_log, added, SumsAdded, CreditsKept}
+use Rattle.joining.specs.Joined.{joined_log, added, times_added, SumsAdded, CreditsKept}
 
 -- ---- when a join is refused
 
@@ -71,14 +71,16 @@ pub record OfJoin (s t : List ℕ) (room : ℕ) (x : Refusal) : Type 0 where
 
 -- ---- what is written
 
--- what is claimed of the bytes that are written: they say the joined log and are an accepted log, of the two lengths added less the 10 bytes of one header; its
--- sums are the two logs' added, per module and for the tool, and each standard keeps its credited units
+-- what is claimed of the bytes that are written: they say the joined log and are an accepted log, of the two lengths added less the 10 bytes of one header and at most
+-- 63,130 bytes; its times and quantities are the two logs' added, per module and for the tool, and each standard keeps its credited units
 pub record Joined (s t : List ℕ) : Type 0 where
   pub says : decode (joined_bytes s t) ≡ joined_log (decode s) (decode t)
   pub accepted : verdict (joined_bytes s t) ≡ Ok tt
   pub size : length (joined_bytes s t) + 10 ≡ length s + length t
+  pub most : length (joined_bytes s t) ≤ 63130
   pub sums : (m : ℕ) → m < (decode s).modules → SumsAdded (decode s) (decode t) m
   pub tool : of_tool (joined_log (decode s) (decode t)) ≡ added (of_tool (decode s)) (of_tool (decode t))
+  pub tool_times : tool_times (joined_log (decode s) (decode t)) ≡ times_added (tool_times (decode s)) (tool_times (decode t))
   pub credits : CreditsKept (decode s) (decode t)
 
 -- three logs of which each two neighbours may be joined join to the same bytes, whichever two come first

@@ -25,7 +25,7 @@ header_verdict a b =
     then ground Period NoList 0 (bad_period (joined_header a b).period)
     then ground Counts NoList 0 (bad_counts (joined_header a b))
 
--- the header of an accepted log
+-- what each of the two headers has, that of an accepted log
 pub record InBounds (h : Header) : Type 0 where
   pub begun : 0 < h.period
   pub short : h.period ≤ 31622400000

@@ -1,14 +1,10 @@
 // The standards of both logs, merged into their rising sequence as they are written.
-ghost use Rattle.std.specs.Prelude.{◌≡◌, ◌+◌, ◌*◌, ◌^◌, ◌≤◌, ◌<◌, ℕ, length};
-ghost use mathlib.Core.List.{map};
+ghost use Rattle.std.specs.Prelude.{◌≡◌, ◌+◌, ◌*◌, ◌^◌, ◌≤◌, ◌<◌, length};
 ghost use Rattle.filling.specs.Buffer.{Put};
 ghost use Rattle.records.specs.Encode.{standard_bytes, joined};
-ghost use Rattle.records.specs.Log.{standard_at, up_to};
+ghost use Rattle.records.specs.Log.{standard_at};
 ghost use Rattle.rules.specs.Keys.{standard_number};
-ghost use Rattle.rules.specs.Sequence.{standard_key};
-ghost use Rattle.joining.specs.Joined.{standard_up};
-ghost use Rattle.joining.specs.Merged.{merged};
-ghost use Rattle.joining.specs.Turns.{Mergeable, Left, Next};
+ghost use Rattle.joining.specs.Turns.{Left, MergeableLogs, NextOfLogs, merged_standards};
 
 use crate::moved::put_standard;
 use records::StandardRecords;
@@ -31,8 +27,8 @@ fn first_is_next(
     by: u64,
 ) -> bool
     requires left { Left first.header.standards second.header.standards i j }
-    requires mergeable { Mergeable (standard_at first.bytes.now first.header) first.header.standards (standard_at second.bytes.now second.header) second.header.standards by }
-    ensures { Next (standard_at first.entry.bytes.now first.entry.header) first.entry.header.standards (standard_at second.entry.bytes.now second.entry.header) second.entry.header.standards by i j result }
+    requires mergeable { MergeableLogs first.bytes.now first.header second.bytes.now second.header by }
+    ensures { NextOfLogs first.entry.bytes.now first.entry.header second.entry.bytes.now second.entry.header by i j result }
 {
     if i == first.header.standards {
         return false;
@@ -52,9 +48,9 @@ pub fn put_standards(
     by: u64,
 ) -> usize
     requires room { at + 10 * (first.header.standards + second.header.standards) ≤ length buf.old }
-    requires mergeable { Mergeable (standard_at first.bytes.now first.header) first.header.standards (standard_at second.bytes.now second.header) second.header.standards by }
+    requires mergeable { MergeableLogs first.bytes.now first.header second.bytes.now second.header by }
     ensures place { result ≡ at + 10 * (first.entry.header.standards + second.entry.header.standards) }
-    ensures put { Put (joined standard_bytes (merged standard_key (up_to (standard_at first.entry.bytes.now first.entry.header) first.entry.header.standards) (map (standard_up by) (up_to (standard_at second.entry.bytes.now second.entry.header) second.entry.header.standards)))) buf.old at result buf.new }
+    ensures put { Put (joined standard_bytes (merged_standards first.entry.bytes.now first.entry.header second.entry.bytes.now second.entry.header by)) buf.old at result buf.new }
 {
     let n = first.header.standards + second.header.standards;
     let mut i = 0;

@@ -1,7 +1,7 @@
 -- A list made of at 0, at 1, .. : its length, its elements and its front.
 -- Assumes nothing.
 use mathlib.Core.Path.{◌≡◌, refl, sym, ap, ◌∙◌}
-use mathlib.Core.List.{List, [], ◌∷◌, ◌++◌}
+use mathlib.Core.List.{List, [], ◌∷◌, ◌++◌, map, map-append}
 use Prim.Native.Nat.{ℕ, zero, suc, ◌+◌, ◌<◌}
 use native.Mathlib.Numerals.{add-one}
 use native.Mathlib.Decide.{dec_lt}
@@ -35,3 +35,9 @@ module _ {A : Type 0} (at : ℕ → A) where
   -- a list whose elements are at 0, at 1, .. is that list
   pub up_to_all : (xs : List A) (d : A) → ((i : ℕ) → i < length xs → at i ≡ get_or xs i d) → up_to at (length xs) ≡ xs
   up_to_all xs d h = ext_get_or d (up_to at (length xs)) xs (length_up_to (length xs)) (λ i l. let m : i < length xs = omega (arith, length_up_to (length xs)) in up_to_at (length xs) i d m ∙ h i m)
+
+-- each of them by f
+pub map-up_to : {A B : Type 0} (f : A → B) (at : ℕ → A) (n : ℕ) → map f (up_to at n) ≡ up_to (λ i. f (at i)) n
+unfolding up_to
+map-up_to f at zero = refl
+map-up_to f at (suc n) = map-append f (up_to at n) (at n ∷ []) ∙ ap (λ (xs : List _). xs ++ (f (at n) ∷ [])) (map-up_to f at n)

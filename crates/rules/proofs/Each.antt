@@ -17,10 +17,6 @@ module _ {A : Type 0} where
   each-so P Q h [] e = tt
   each-so P Q h (r ∷ rs) e = (h r e.0, each-so P Q h rs e.1)
 
-  pub each-of : (P : A → Type 0) → ((r : A) → P r) → (rs : List A) → Each P rs
-  each-of P h [] = tt
-  each-of P h (r ∷ rs) = (h r, each-of P h rs)
-
   -- two properties make a third
   pub each-both : (P Q R : A → Type 0) → ((r : A) → P r → Q r → R r) → (rs : List A) → Each P rs → Each Q rs → Each R rs
   each-both P Q R h [] e f = tt

@@ -1,4 +1,4 @@
--- A log's records are accepted exactly where each is sound by itself, each list rises, each module is opened, and none is too fast.
+-- Accepted records are sound: each by itself, each list rises, each module is opened, and none is too fast. And a list whose records are sound and rise is accepted.
 -- Assumes nothing.
 use mathlib.Core.Path.{◌≡◌, refl}
 use mathlib.Core.Bool.{Bool, true, false, ◌||◌, not}
@@ -49,6 +49,10 @@ pub first-of : (g : ℕ → Verdict) (n : ℕ) → ((i : ℕ) → i < n → g i 
 unfolding first_of
 first-of g zero h = refl
 first-of g (suc n) h = then-both (first_of g n) (g n) (first-of g n (λ i l. h i (omega arith))) (h n (omega arith))
+
+-- a ground that accepts is not met, and what comes behind it accepts
+past : (g : Ground) (l : LogList) (p : ℕ) (t : Bool) {v : Verdict} → ground g l p t then v ≡ Ok tt → (t ≡ false) × (v ≡ Ok tt)
+past g l p t {v} e = (not-met g l p t (then-left (ground g l p t) v e), then-right (ground g l p t) v e)
 
 -- ---- a list tested record by record
 
@@ -104,29 +108,25 @@ module _ (period modules : ℕ) where
   state-local : (earlier : List StateRecord) (i : ℕ) (r : StateRecord) → state_ground period modules earlier i r ≡ Ok tt → StateSound period modules r × (is_after state_key (just_before earlier) r ≡ true)
   unfolding state_ground
   state-local earlier i r e =
-      let g6 = ground Spare States i (not (eqb (r.spare) 0)) in
-      let g7 = ground StrayModule States i (leb modules (r.«module»)) in
-      let g8 = ground StrayCode States i (ltb 23 (r.code)) in
-      let g9 = ground Outside States i (leb period (r.time)) in
+      let a = past Spare States i (not (eqb r.spare 0)) e in
+      let b = past StrayModule States i (leb modules r.«module») a.1 in
+      let c = past StrayCode States i (ltb 23 r.code) b.1 in
+      let d = past Outside States i (leb period r.time) c.1 in
       let after = is_after state_key (just_before earlier) r in
-      let own = is_not_after (r.time) (own_time (r.«module») earlier) in
-      let e7 = then-right g6 _ e in
-      let e8 = then-right g7 _ e7 in
-      let e9 = then-right g8 _ e8 in
-      let e10 = then-right g9 _ e9 in (
+      let own = is_not_after r.time (own_time r.«module» earlier) in (
         record {
-          unspared = eqb-true (r.spare) 0 (not-false (eqb (r.spare) 0) (not-met Spare States i _ (then-left g6 _ e)));
-          own = leb-false modules (r.«module») (not-met StrayModule States i _ (then-left g7 _ e7));
-          known = ltb-false 23 (r.code) (not-met StrayCode States i _ (then-left g8 _ e8));
-          inside = leb-false period (r.time) (not-met Outside States i _ (then-left g9 _ e9));
+          unspared = eqb-true r.spare 0 (not-false (eqb r.spare 0) a.0);
+          own = leb-false modules r.«module» b.0;
+          known = ltb-false 23 r.code c.0;
+          inside = leb-false period r.time d.0;
         },
-        not-false after (or_left (not after) own (not-met Sequence States i (not after || own) e10)),
+        not-false after (or_left (not after) own (not-met Sequence States i (not after || own) d.1)),
       )
 
   state-passes : (earlier : List StateRecord) (i : ℕ) (r : StateRecord) → StateSound period modules r → Each (λ q. Before state_key q r) earlier → state_ground period modules earlier i r ≡ Ok tt
   unfolding state_ground own_time
   state-passes earlier i r s e =
-      rw (eq-eqb (r.spare) 0 (s.unspared), lt-leb modules (r.«module») (s.own), le-ltb 23 (r.code) (s.known), lt-leb period (r.time) (s.inside), after-all state_key earlier r e, own-later r none earlier refl e)
+      rw (eq-eqb r.spare 0 s.unspared, lt-leb modules r.«module» s.own, le-ltb 23 r.code s.known, lt-leb period r.time s.inside, after-all state_key earlier r e, own-later r none earlier refl e)
 
   pub state-tests : Tests state_key (state_ground period modules) (StateSound period modules)
   state-tests = record { local = λ earlier i r e. (state-local earlier i r e).0; after = λ earlier i r e. (state-local earlier i r e).1; passes = state-passes }
@@ -140,29 +140,25 @@ module _ (period modules : ℕ) where
   standard-local : (earlier : List Standard) (i : ℕ) (s : Standard) → standard_ground period modules earlier i s ≡ Ok tt → StandardSound period modules s × (is_after standard_key (just_before earlier) s ≡ true)
   unfolding standard_ground
   standard-local earlier i s e =
-      let g6 = ground Spare Standards i (not (eqb (s.spare) 0)) in
-      let g7 = ground StrayModule Standards i (leb modules (s.«module»)) in
-      let g9 = ground Outside Standards i (leb period (s.start)) in
-      let g12 = ground NoTime Standards i (eqb (s.theoretical) 0) in
-      let g13 = ground Twice Standards i (is_among s earlier) in
-      let after = is_after standard_key (just_before earlier) s in
-      let e7 = then-right g6 _ e in
-      let e9 = then-right g7 _ e7 in
-      let e12 = then-right g9 _ e9 in
-      let e13 = then-right g12 _ e12 in (
+      let a = past Spare Standards i (not (eqb s.spare 0)) e in
+      let b = past StrayModule Standards i (leb modules s.«module») a.1 in
+      let c = past Outside Standards i (leb period s.start) b.1 in
+      let d = past NoTime Standards i (eqb s.theoretical 0) c.1 in
+      let f = past Twice Standards i (is_among s earlier) d.1 in
+      let after = is_after standard_key (just_before earlier) s in (
         record {
-          unspared = eqb-true (s.spare) 0 (not-false (eqb (s.spare) 0) (not-met Spare Standards i _ (then-left g6 _ e)));
-          own = leb-false modules (s.«module») (not-met StrayModule Standards i _ (then-left g7 _ e7));
-          inside = leb-false period (s.start) (not-met Outside Standards i _ (then-left g9 _ e9));
-          timed = some-time s.theoretical (not-met NoTime Standards i _ (then-left g12 _ e12));
+          unspared = eqb-true s.spare 0 (not-false (eqb s.spare 0) a.0);
+          own = leb-false modules s.«module» b.0;
+          inside = leb-false period s.start c.0;
+          timed = some-time s.theoretical d.0;
         },
-        not-false after (not-met Unsorted Standards i (not after) (then-right g13 _ e13)),
+        not-false after (not-met Unsorted Standards i (not after) f.1),
       )
 
   standard-passes : (earlier : List Standard) (i : ℕ) (s : Standard) → StandardSound period modules s → Each (λ q. Before standard_key q s) earlier → standard_ground period modules earlier i s ≡ Ok tt
   unfolding standard_ground
   standard-passes earlier i s h e =
-      rw (eq-eqb (s.spare) 0 (h.unspared), lt-leb modules (s.«module») (h.own), lt-leb period (s.start) (h.inside), ne_eqb s.theoretical 0 (λ e. omega (arith, e, h.timed)), none-among s earlier e, after-all standard_key earlier s e)
+      rw (eq-eqb s.spare 0 h.unspared, lt-leb modules s.«module» h.own, lt-leb period s.start h.inside, ne_eqb s.theoretical 0 (λ e. omega (arith, e, h.timed)), none-among s earlier e, after-all standard_key earlier s e)
 
   pub standard-tests : Tests standard_key (standard_ground period modules) (StandardSound period modules)
   standard-tests = record { local = λ earlier i r e. (standard-local earlier i r e).0; after = λ earlier i r e. (standard-local earlier i r e).1; passes = standard-passes }
@@ -173,30 +169,26 @@ module _ (period modules : ℕ) (ss : List Standard) where
   unit-local : (earlier : List UnitRecord) (i : ℕ) (u : UnitRecord) → unit_ground period modules ss earlier i u ≡ Ok tt → UnitSound period modules ss u × (is_after unit_key (just_before earlier) u ≡ true)
   unfolding unit_ground
   unit-local earlier i u e =
-      let g6 = ground Spare Units i (not (eqb (u.spare) 0)) in
-      let g7 = ground StrayModule Units i (leb modules (u.«module»)) in
-      let g9 = ground Outside Units i (leb period (u.time)) in
-      let g14 = ground OverGood Units i (ltb (u.actual) (u.effective)) in
-      let g15 = ground NoStandard Units i (is_none (in_force ss (u.«module») (u.recipe) (u.time))) in
-      let after = is_after unit_key (just_before earlier) u in
-      let e7 = then-right g6 _ e in
-      let e9 = then-right g7 _ e7 in
-      let e14 = then-right g9 _ e9 in
-      let e15 = then-right g14 _ e14 in (
+      let a = past Spare Units i (not (eqb u.spare 0)) e in
+      let b = past StrayModule Units i (leb modules u.«module») a.1 in
+      let c = past Outside Units i (leb period u.time) b.1 in
+      let d = past OverGood Units i (ltb u.actual u.effective) c.1 in
+      let f = past NoStandard Units i (is_none (in_force ss u.«module» u.recipe u.time)) d.1 in
+      let after = is_after unit_key (just_before earlier) u in (
         record {
-          unspared = eqb-true (u.spare) 0 (not-false (eqb (u.spare) 0) (not-met Spare Units i _ (then-left g6 _ e)));
-          own = leb-false modules (u.«module») (not-met StrayModule Units i _ (then-left g7 _ e7));
-          inside = leb-false period (u.time) (not-met Outside Units i _ (then-left g9 _ e9));
-          within = ltb-false (u.actual) (u.effective) (not-met OverGood Units i _ (then-left g14 _ e14));
-          judged = not-met NoStandard Units i _ (then-left g15 _ e15);
+          unspared = eqb-true u.spare 0 (not-false (eqb u.spare 0) a.0);
+          own = leb-false modules u.«module» b.0;
+          inside = leb-false period u.time c.0;
+          within = ltb-false u.actual u.effective d.0;
+          judged = f.0;
         },
-        not-false after (not-met Unsorted Units i (not after) (then-right g15 _ e15)),
+        not-false after (not-met Unsorted Units i (not after) f.1),
       )
 
   unit-passes : (earlier : List UnitRecord) (i : ℕ) (u : UnitRecord) → UnitSound period modules ss u → Each (λ q. Before unit_key q u) earlier → unit_ground period modules ss earlier i u ≡ Ok tt
   unfolding unit_ground
   unit-passes earlier i u h e =
-      rw (eq-eqb (u.spare) 0 (h.unspared), lt-leb modules (u.«module») (h.own), lt-leb period (u.time) (h.inside), le-ltb (u.actual) (u.effective) (h.within), h.judged, after-all unit_key earlier u e)
+      rw (eq-eqb u.spare 0 h.unspared, lt-leb modules u.«module» h.own, lt-leb period u.time h.inside, le-ltb u.actual u.effective h.within, h.judged, after-all unit_key earlier u e)
 
   pub unit-tests : Tests unit_key (unit_ground period modules ss) (UnitSound period modules ss)
   unit-tests = record { local = λ earlier i r e. (unit-local earlier i r e).0; after = λ earlier i r e. (unit-local earlier i r e).1; passes = unit-passes }
@@ -209,21 +201,21 @@ sound l e =
     let p = l.period in
     let n = l.modules in
     let ss = l.standards in
-    let of_states = state_grounds p n (l.states) in
+    let of_states = state_grounds p n l.states in
     let of_standards = standard_grounds p n ss in
-    let of_units = unit_grounds p n ss (l.units) in
+    let of_units = unit_grounds p n ss l.units in
     let e1 = then-left of_states _ e in
-    let one = each_of (state_ground p n) (l.states) in
+    let one = each_of (state_ground p n) l.states in
     let e2 = then-right of_states _ e in
     let e3 = then-right of_standards _ e2 in
     let fast = then-left (first_of (fast_ground l) n) _ (then-right of_units _ e3) in
     record {
-      states = list-local state_key (state_ground p n) (StateSound p n) (state-tests p n) (l.states) (then-left one _ e1);
-      states_rise = list-rises state_key (state_ground p n) (StateSound p n) (state-tests p n) (l.states) (then-left one _ e1);
-      opened = λ m h. not-false (is_opening (first_time m (l.states))) (not-met NoOpening NoList m _ (first_all (opening_ground (l.states)) n (then-right one _ e1) m h));
+      states = list-local state_key (state_ground p n) (StateSound p n) (state-tests p n) l.states (then-left one _ e1);
+      states_rise = list-rises state_key (state_ground p n) (StateSound p n) (state-tests p n) l.states (then-left one _ e1);
+      opened = λ m h. not-false (is_opening (first_time m l.states)) (not-met NoOpening NoList m _ (first_all (opening_ground l.states) n (then-right one _ e1) m h));
       standards = list-local standard_key (standard_ground p n) (StandardSound p n) (standard-tests p n) ss (then-left of_standards _ e2);
       standards_rise = list-rises standard_key (standard_ground p n) (StandardSound p n) (standard-tests p n) ss (then-left of_standards _ e2);
-      units = list-local unit_key (unit_ground p n ss) (UnitSound p n ss) (unit-tests p n ss) (l.units) (then-left of_units _ e3);
-      units_rise = list-rises unit_key (unit_ground p n ss) (UnitSound p n ss) (unit-tests p n ss) (l.units) (then-left of_units _ e3);
+      units = list-local unit_key (unit_ground p n ss) (UnitSound p n ss) (unit-tests p n ss) l.units (then-left of_units _ e3);
+      units_rise = list-rises unit_key (unit_ground p n ss) (UnitSound p n ss) (unit-tests p n ss) l.units (then-left of_units _ e3);
       slow = λ m h. ltb-false (time_in l productive m) (actual_time l m) (not-met TooFast NoList m _ (first_all (fast_ground l) n fast m h));
     }

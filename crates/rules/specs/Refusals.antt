@@ -35,13 +35,13 @@ abbrev pub benchmark_refusals : List Row
 benchmark_refusals = row Length Benchmarks ∷ row Spare Benchmarks ∷ row NoTime Benchmarks ∷ row AboveStandard Benchmarks ∷ row OverCounted Benchmarks ∷ []
 
 -- those of the second of two logs: the same numbers, each list plus 10
-abbrev pub of_second : List Row → List Row
-of_second [] = []
-of_second (r ∷ rs) = record { number = r.number; list = r.list + 10 } ∷ of_second rs
+abbrev pub rows_of_second : List Row → List Row
+rows_of_second [] = []
+rows_of_second (r ∷ rs) = record { number = r.number; list = r.list + 10 } ∷ rows_of_second rs
 
 -- those of a join: the first log's, the second's, and its own
 abbrev pub join_refusals : List Row
-join_refusals = log_refusals ++ (of_second log_refusals ++ (row UnlikeTools NoList ∷ row ShortBuffer NoList ∷ []))
+join_refusals = log_refusals ++ (rows_of_second log_refusals ++ (row UnlikeTools NoList ∷ row ShortBuffer NoList ∷ []))
 
 abbrev pub is_row : List Row → ℕ → ℕ → Bool
 is_row [] n l = false

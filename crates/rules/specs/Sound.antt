@@ -1,5 +1,5 @@
 -- What the grounds of a log's records come down to: each record is sound by itself, each list rises, each module is opened, and none is too fast.
--- `proofs/Sound.antt` has that such records are accepted and that accepted ones are such.
+-- `proofs/Sound.antt` has that accepted records are such; within a header's bounds such records are accepted (crate sound: `records_accepted`).
 -- Definitions only.
 use Rattle.std.specs.Prelude.{◌≡◌, ◌≤◌, ◌<◌, ℕ, true, false, List}
 use Rattle.records.specs.declared.StateRecord.{StateRecord}

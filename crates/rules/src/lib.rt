@@ -44,7 +44,7 @@ pub enum Ground {
     UnlikeTools,
 }
 
-// The list that a refusal points to: of the log, the benchmarks lent beside it, or the second of two logs, none of its lists or one of them.
+// The list that a refusal points to: of the log, the benchmarks lent beside it, or the second of two logs, as a whole or one of its lists.
 #[derive(Clone, Copy, PartialEq, Eq)]
 pub enum LogList {
     NoList,

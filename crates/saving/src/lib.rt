@@ -42,6 +42,14 @@ fn or_removed(files: &impl Files, new: &str, done: io::Result<()>) -> io::Result
     done
 }
 
+// Whether the path names what is there and is no file and no directory: a device, say, whose place a file must not take. A directory takes none by itself.
+fn is_special(files: &impl Files, path: &str) -> bool {
+    match fs::metadata(files, path) {
+        Ok(there) => !there.is_file() && !there.is_dir(),
+        Err(_) => false,
+    }
+}
+
 // Writes the bytes to a new file beside the one that the path names, and renames it into place once all of them are kept. Where that is not done the path
 // names what it named before, and the new file is gone. A new file that is there already, left by a run that was cut off, stays and is not written over.
 // std knows a file by a path of UTF-8 alone: by any other it writes none.
@@ -58,6 +66,12 @@ pub fn replace(files: &impl Files, path: &[u8], bytes: &[u8]) -> Result<(), Repl
     let Ok(new) = str::from_utf8(&name[..n]) else {
         return Err(ReplaceError::NotWritten(io::Error::from_raw_os_error(ENAMETOOLONG)));
     };
+    if is_special(files, path) {
+        return Err(ReplaceError::NotRenamed(io::Error::new(
+            ErrorKind::InvalidInput,
+            "not a regular file",
+        )));
+    }
     let file = OpenOptions::new()
         .write(true)
         .create_new(true)
@@ -67,7 +81,7 @@ pub fn replace(files: &impl Files, path: &[u8], bytes: &[u8]) -> Result<(), Repl
     or_removed(files, new, fs::rename(files, new, path)).map_err(ReplaceError::NotRenamed)
 }
 
-// The same. Where it is not done it says why, on standard error: of the new file, or of the one that the path names.
+// Replaces a file, and says on standard error why it could not: of the new file, or of the one that the path names.
 pub fn save(files: &impl Files, err: &impl Print, path: &[u8], bytes: &[u8])
     requires { length path.now ≤ 4096 }
 {

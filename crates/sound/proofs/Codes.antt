@@ -23,11 +23,6 @@ unfolding count
 count-add f p zero = ap (count f) (add-zero p) ∙ omega arith
 count-add f p (suc q) = rw add-suc (omega (arith, count-add f p q))
 
-pub count-agree : (p q : ℕ → Bool) (n : ℕ) → ((t : ℕ) → t < n → p t ≡ q t) → count p n ≡ count q n
-unfolding count
-count-agree p q zero h = refl
-count-agree p q (suc n) h = ap₂ (λ (b : Bool) (x : ℕ). cond b 1 0 + x) (h n (le_refl (suc n))) (count-agree p q n (λ t l. h t (omega arith)))
-
 -- ---- the code found
 
 -- the second where the first finds none
@@ -67,11 +62,6 @@ module _ (m t : ℕ) where
   pub code-append : (rs qs : List StateRecord) → code_at (rs ++ qs) m t ≡ or_else (code_at qs m t) (code_at rs m t)
   unfolding code_at
   code-append rs qs = foldl-append (keep m t) none rs qs ∙ from (foldl (keep m t) none rs) qs
-
-  -- one more record ahead
-  pub code-cons : (r : StateRecord) (rs : List StateRecord) → code_at (r ∷ rs) m t ≡ or_else (code_at rs m t) (keep m t none r)
-  unfolding code_at
-  code-cons r rs = from (keep m t none r) rs
 
   -- none among later records
   pub code-later : (rs : List StateRecord) → Each (λ r. t < r.time) rs → code_at rs m t ≡ none

@@ -30,7 +30,7 @@ use Rattle.rules.proofs.Each.{each-both, each-append}
 use Rattle.rules.specs.Sound.{StateSound, StandardSound, UnitSound, Sound}
 use Rattle.rules.proofs.Booleans.{or_left, or_right}
 use Rattle.rules.proofs.Sound.{no-ground, then-both, first-of, list-passes, state-tests, standard-tests, unit-tests, sound}
-use Rattle.sound.specs.Bounds.{Bounded, StandardFits, UnitFits, Writable, Read}
+use Rattle.sound.specs.Bounds.{Bounded, StandardNarrow, UnitNarrow, Writable, Read}
 use Rattle.judging.specs.Working.{Grounded}
 use Rattle.judging.proofs.Accepted.{consistent, none_over}
 use Rattle.judging.proofs.Judging.{accepted_counts}
@@ -54,8 +54,8 @@ read s e =
       writable = record {
         sound = sound (decode s) (then-right (header_grounds s) (record_grounds (decode s)) e);
         bounded = record { some_time = c.period.0; short = c.period.1; some_module = c.modules.0; few = c.modules.1; states = rw a c.counts.0; standards = rw b c.counts.1; units = rw d c.counts.2 };
-        standards = each-up_to StandardFits (standard_at s h) h.standards (λ i. let f = standard-fits s (80 + 48 * h.states + 80 * i) in record { recipe = f.1.0; theoretical = f.1.1.1.0 });
-        units = each-up_to UnitFits (unit_at s h) h.units (λ i. let f = unit-fits s (80 + 48 * h.states + 80 * h.standards + 88 * i) in record { recipe = f.1.0; actual = f.1.1.1.0; effective = f.1.1.1.1.0 });
+        standards = each-up_to StandardNarrow (standard_at s h) h.standards (λ i. let f = standard-fits s (80 + 48 * h.states + 80 * i) in record { recipe = f.1.0; theoretical = f.1.1.1.0 });
+        units = each-up_to UnitNarrow (unit_at s h) h.units (λ i. let f = unit-fits s (80 + 48 * h.states + 80 * h.standards + 88 * i) in record { recipe = f.1.0; actual = f.1.1.1.0; effective = f.1.1.1.1.0 });
       };
       size = rw (a, b, d) c.whole;
     }
@@ -78,8 +78,8 @@ module _ (l : Log) (w : Writable l) where
       record {
         header = (omega (arith, b.short), (omega (arith, b.few), (omega (arith, b.states), (omega (arith, b.standards), (omega (arith, b.units), tt)))));
         states = all-fit state_slots (StateSound l.period l.modules) (λ r h. (omega (arith, h.own, b.few), (omega (arith, h.known), (omega (arith, h.inside, b.short), (omega (arith, h.unspared), tt))))) l.states s.states;
-        standards = all-fit standard_slots (λ r. StandardSound l.period l.modules r × StandardFits r) (λ r h. (omega (arith, h.0.own, b.few), (h.1.recipe, (omega (arith, h.0.inside, b.short), (h.1.theoretical, (omega (arith, h.0.unspared), tt)))))) l.standards (each-both _ _ _ (λ r x y. (x, y)) l.standards s.standards w.standards);
-        units = all-fit unit_slots (λ r. UnitSound l.period l.modules l.standards r × UnitFits r) (λ r h. (omega (arith, h.0.own, b.few), (h.1.recipe, (omega (arith, h.0.inside, b.short), (h.1.actual, (h.1.effective, (omega (arith, h.0.unspared), tt))))))) l.units (each-both _ _ _ (λ r x y. (x, y)) l.units s.units w.units);
+        standards = all-fit standard_slots (λ r. StandardSound l.period l.modules r × StandardNarrow r) (λ r h. (omega (arith, h.0.own, b.few), (h.1.recipe, (omega (arith, h.0.inside, b.short), (h.1.theoretical, (omega (arith, h.0.unspared), tt)))))) l.standards (each-both _ _ _ (λ r x y. (x, y)) l.standards s.standards w.standards);
+        units = all-fit unit_slots (λ r. UnitSound l.period l.modules l.standards r × UnitNarrow r) (λ r h. (omega (arith, h.0.own, b.few), (h.1.recipe, (omega (arith, h.0.inside, b.short), (h.1.actual, (h.1.effective, (omega (arith, h.0.unspared), tt))))))) l.units (each-both _ _ _ (λ r x y. (x, y)) l.units s.units w.units);
       }
 
   pub encoded-says : decode (encode l) ≡ l

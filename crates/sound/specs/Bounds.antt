@@ -18,11 +18,11 @@ pub record Bounded (l : Log) : Type 0 where
   pub units : length l.units ≤ 2000
 
 -- the numbers of a standard and of a unit record that their fields alone bound
-pub record StandardFits (s : Standard) : Type 0 where
+pub record StandardNarrow (s : Standard) : Type 0 where
   pub recipe : s.recipe < 2 ^ 10
   pub theoretical : s.theoretical < 2 ^ 27
 
-pub record UnitFits (u : UnitRecord) : Type 0 where
+pub record UnitNarrow (u : UnitRecord) : Type 0 where
   pub recipe : u.recipe < 2 ^ 10
   pub actual : u.actual < 2 ^ 16
   pub effective : u.effective < 2 ^ 16
@@ -31,8 +31,8 @@ pub record UnitFits (u : UnitRecord) : Type 0 where
 pub record Writable (l : Log) : Type 0 where
   pub sound : Sound l
   pub bounded : Bounded l
-  pub standards : Each StandardFits l.standards
-  pub units : Each UnitFits l.units
+  pub standards : Each StandardNarrow l.standards
+  pub units : Each UnitNarrow l.units
 
 -- what the bytes of an accepted log have
 pub record Read (s : List ℕ) : Type 0 where

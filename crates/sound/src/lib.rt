@@ -1,3 +1,3 @@
-// Laws of accepted logs, for the calls that make a log of others: its records are accepted exactly where each is sound by itself, each list rises, each module is
-// opened and none is too fast; and a sound log within the bounds of a header, written as bytes, is accepted and says what the log says.
+// Laws of accepted logs, for the calls that make a log of others: a log whose records are sound and whose header is within its bounds, written as bytes, is accepted and
+// says what the log says; codes and counts over a list in two parts; the one standard in force of a list that rises.
 #![tactic(auto)]

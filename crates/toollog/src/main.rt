@@ -1,12 +1,11 @@
 // One command for a log: its report, its state times, its quantities, its losses, the units credited to each standard, its supplemental figures, one log of two, and
 // what a refusal means.
-// That a name is at most 4,096 bytes stands in four contracts: see `saying`.
+// That a name is at most 4,096 bytes stands in six contracts: see `saying`.
 #![tactic(auto)]
 
 ghost use Rattle.std.specs.Prelude.{ℕ, ◌≤◌, length};
 
-use reading::Named;
-use reading::ENAMETOOLONG;
+use reading::{ENAMETOOLONG, Named};
 use std::env::FillError;
 use std::io;
 use std::rt::Env;
@@ -207,6 +206,12 @@ fn join_named(rt: HostRuntime, first: Named, second: Named) {
     }
 }
 
+// Whether argument i is `-`, or nothing.
+fn names_no_file(rt: HostRuntime, i: usize) -> bool {
+    let mut text = [0u8; 1];
+    is_input(rt, i) || matches!(rt.arg(i, &mut text), Ok(0))
+}
+
 fn read_two(rt: HostRuntime) {
     let mut name = [0u8; 4096];
     let mut input = [0u8; 63131];
@@ -228,7 +233,7 @@ fn join(rt: HostRuntime) {
         complain(rt, b"join", b"FIRST, SECOND and RESULT are needed\n");
     } else if is_input(rt, 2) && is_input(rt, 3) {
         complain(rt, b"join", b"standard input cannot be both\n");
-    } else if is_input(rt, 4) {
+    } else if names_no_file(rt, 4) {
         complain(rt, b"join", b"RESULT has to be the name of a file\n");
     } else {
         read_two(rt);
