@@ -5,12 +5,13 @@
 mod moved;
 mod standards;
 
-ghost use Rattle.std.specs.Prelude.{◌≡◌, ◌≤◌, length, MatchResult};
+ghost use Rattle.std.specs.Prelude.{◌≡◌, ◌+◌, ◌*◌, ◌≤◌, length, take, drop, MatchResult};
 ghost use Rattle.std.specs.declared.result.Result.TheVariants.{Ok, Err};
 ghost use Rattle.bits.specs.Put.{Fit};
 ghost use Rattle.filling.specs.Buffer.{Put};
 ghost use Rattle.records.specs.Encode.{header_slots, header_bytes};
 ghost use Rattle.records.specs.Log.{decode};
+ghost use Rattle.records.specs.Whole.{units_begin};
 ghost use Rattle.rules.specs.Answers.{answer_of};
 ghost use Rattle.rules.specs.SameRecords.{Bytes};
 ghost use Rattle.rules.specs.Verdict.{verdict};
@@ -67,7 +68,25 @@ fn put_header(buf: &mut [u8], h: Header) -> usize
     filling::put_number(buf, middle, 3, second)
 }
 
-// The joined log's bytes. The first log's state records and unit records are copied as they stand.
+// A log's state records, as they stand.
+fn copy_states(buf: &mut [u8], at: usize, log: WholeLog) -> usize
+    requires { at + 6 * log.header.states ≤ length buf.old }
+    ensures place { result ≡ at + 6 * log.entry.header.states }
+    ensures put { Put (take (6 * log.entry.header.states) (drop 10 log.entry.bytes.now)) buf.old at result buf.new }
+{
+    filling::put_text(buf, at, &log.bytes[10..10 + 6 * log.header.states])
+}
+
+// Its unit records.
+fn copy_units(buf: &mut [u8], at: usize, log: WholeLog) -> usize
+    requires { at + 11 * log.header.units ≤ length buf.old }
+    ensures place { result ≡ at + 11 * log.entry.header.units }
+    ensures put { Put (drop (units_begin log.entry.header) log.entry.bytes.now) buf.old at result buf.new }
+{
+    filling::put_text(buf, at, &log.bytes[log.units().begin()..])
+}
+
+// The joined log's bytes.
 fn put_log(buf: &mut [u8], a: WholeLog, b: WholeLog, h: Header) -> usize
     requires first { verdict a.bytes.now ≡ Ok tt }
     requires second { verdict b.bytes.now ≡ Ok tt }
@@ -79,14 +98,10 @@ fn put_log(buf: &mut [u8], a: WholeLog, b: WholeLog, h: Header) -> usize
 {
     let by = a.header.period;
     let first_states = put_header(buf, h);
-    let second_states = filling::put_text(
-        buf,
-        first_states,
-        &a.bytes[10..10 + 6 * a.header.states],
-    );
+    let second_states = copy_states(buf, first_states, a);
     let standards = moved::put_states(buf, second_states, b.states(), by);
     let first_units = standards::put_standards(buf, standards, a.standards(), b.standards(), by);
-    let second_units = filling::put_text(buf, first_units, &a.bytes[a.units().begin()..]);
+    let second_units = copy_units(buf, first_units, a);
     moved::put_units(buf, second_units, b.units(), by)
 }
 

@@ -1,9 +1,6 @@
 -- `joining::put_log` meets its contract: the six parts are put one behind the other. Assumes nothing.
-use mathlib.Core.Path.{◌≡◌, sym}
-use Prim.Native.Nat.{◌+◌, ◌*◌, ◌-◌}
+use mathlib.Core.Path.{sym}
 use native.Mathlib.Omega.{arith}
-use lib.ListN.{length, drop, length-drop}
-use lib.Seq.{length-take-le, take_all}
 use Rattle.filling.proofs.Written.{then, read_as}
 use Rattle.joining.proofs.Laid.{size, header-fit, states-fit, units-fit, mergeable, all-parts}
 use Rattle.joining.proofs.put_log.Goals as goal
@@ -14,17 +11,15 @@ put_header-first_states-requires-clause-fits c = rw (c.requires.own, c.args.a.ow
 pub put_header-first_states-requires-clause-room : goal.put_header-first_states-requires-clause-room
 put_header-first_states-requires-clause-room c = omega (arith, size c.args.a.bytes.now c.args.b.bytes.now, c.requires.room)
 
-pub put_text-second_states-requires : goal.put_text-second_states-requires
-put_text-second_states-requires c =
+pub copy_states-second_states-requires : goal.copy_states-second_states-requires
+copy_states-second_states-requires c =
     let all = rw (← c.args.a.own, ← c.args.b.own) at (size c.args.a.bytes.now c.args.b.bytes.now) in
-    let states = length-take-le (10 + 6 * c.args.a.header.states - 10) (drop 10 c.args.a.bytes.now) (omega (arith, length-drop 10 c.args.a.bytes.now, c.args.a.there.0)) in
-    omega (arith, all, c.requires.room, states, c.put_header-first_states.ensures.place)
+    omega (arith, all, c.requires.room, c.put_header-first_states.ensures.place)
 
 pub put_states-standards-requires-clause-room : goal.put_states-standards-requires-clause-room
 put_states-standards-requires-clause-room c =
     let all = rw (← c.args.a.own, ← c.args.b.own) at (size c.args.a.bytes.now c.args.b.bytes.now) in
-    let states = length-take-le (10 + 6 * c.args.a.header.states - 10) (drop 10 c.args.a.bytes.now) (omega (arith, length-drop 10 c.args.a.bytes.now, c.args.a.there.0)) in
-    rw c.states.ensures.1 (omega (arith, all, c.requires.room, states, c.put_header-first_states.ensures.place, c.put_text-second_states.ensures.next))
+    rw c.states.ensures.1 (omega (arith, all, c.requires.room, c.put_header-first_states.ensures.place, c.copy_states-second_states.ensures.place))
 
 pub put_states-standards-requires-clause-fits : goal.put_states-standards-requires-clause-fits
 put_states-standards-requires-clause-fits c = rw (c.states.ensures.0, c.states.ensures.1, c.args.a.own, c.args.b.own) (states-fit c.args.a.bytes.now c.args.b.bytes.now c.requires.first c.requires.second c.requires.allowed)
@@ -32,46 +27,37 @@ put_states-standards-requires-clause-fits c = rw (c.states.ensures.0, c.states.e
 pub put_standards-first_units-requires-clause-room : goal.put_standards-first_units-requires-clause-room
 put_standards-first_units-requires-clause-room c =
     let all = rw (← c.args.a.own, ← c.args.b.own) at (size c.args.a.bytes.now c.args.b.bytes.now) in
-    let states = length-take-le (10 + 6 * c.args.a.header.states - 10) (drop 10 c.args.a.bytes.now) (omega (arith, length-drop 10 c.args.a.bytes.now, c.args.a.there.0)) in
     let moved = rw c.states.ensures.1 at c.put_states-standards.ensures.place in
-    rw (c.standards.ensures.1, c.standards-2.ensures.1) (omega (arith, all, c.requires.room, states, c.put_header-first_states.ensures.place, c.put_text-second_states.ensures.next, moved))
+    rw (c.standards.ensures.1, c.standards-2.ensures.1) (omega (arith, all, c.requires.room, c.put_header-first_states.ensures.place, c.copy_states-second_states.ensures.place, moved))
 
 pub put_standards-first_units-requires-clause-mergeable : goal.put_standards-first_units-requires-clause-mergeable
-put_standards-first_units-requires-clause-mergeable c = rw (c.standards.ensures.0, c.standards.ensures.1, c.standards-2.ensures.0, c.standards-2.ensures.1, c.args.a.own, c.args.b.own) (mergeable c.args.a.bytes.now c.args.b.bytes.now c.requires.first c.requires.second c.requires.allowed)
+put_standards-first_units-requires-clause-mergeable c =
+    rw (c.standards.ensures.0, c.standards.ensures.1, c.standards-2.ensures.0, c.standards-2.ensures.1, c.args.a.own, c.args.b.own) (mergeable c.args.a.bytes.now c.args.b.bytes.now c.requires.first c.requires.second c.requires.allowed)
 
-pub put_text-second_units-requires : goal.put_text-second_units-requires
-put_text-second_units-requires c =
+pub copy_units-second_units-requires : goal.copy_units-second_units-requires
+copy_units-second_units-requires c =
     let all = rw (← c.args.a.own, ← c.args.b.own) at (size c.args.a.bytes.now c.args.b.bytes.now) in
-    let states = length-take-le (10 + 6 * c.args.a.header.states - 10) (drop 10 c.args.a.bytes.now) (omega (arith, length-drop 10 c.args.a.bytes.now, c.args.a.there.0)) in
     let moved = rw c.states.ensures.1 at c.put_states-standards.ensures.place in
     let merged = rw (c.standards.ensures.1, c.standards-2.ensures.1) at c.put_standards-first_units.ensures.place in
-    let begin = rw c.units.ensures.1 at c.begin.ensures in
-    let units = length-take-le (length c.args.a.bytes.now - c.begin.result) (drop c.begin.result c.args.a.bytes.now) (omega (arith, length-drop c.begin.result c.args.a.bytes.now)) in
-    omega (arith, all, c.requires.room, states, c.put_header-first_states.ensures.place, c.put_text-second_states.ensures.next, moved, merged, begin, units, c.args.a.there.0)
+    omega (arith, all, c.requires.room, c.put_header-first_states.ensures.place, c.copy_states-second_states.ensures.place, moved, merged)
 
 pub put_units-requires-clause-room : goal.put_units-requires-clause-room
 put_units-requires-clause-room c =
     let all = rw (← c.args.a.own, ← c.args.b.own) at (size c.args.a.bytes.now c.args.b.bytes.now) in
-    let states = length-take-le (10 + 6 * c.args.a.header.states - 10) (drop 10 c.args.a.bytes.now) (omega (arith, length-drop 10 c.args.a.bytes.now, c.args.a.there.0)) in
     let moved = rw c.states.ensures.1 at c.put_states-standards.ensures.place in
     let merged = rw (c.standards.ensures.1, c.standards-2.ensures.1) at c.put_standards-first_units.ensures.place in
-    let begin = rw c.units.ensures.1 at c.begin.ensures in
-    let units = length-take-le (length c.args.a.bytes.now - c.begin.result) (drop c.begin.result c.args.a.bytes.now) (omega (arith, length-drop c.begin.result c.args.a.bytes.now)) in
-    rw c.units-2.ensures.1 (omega (arith, all, c.requires.room, states, c.put_header-first_states.ensures.place, c.put_text-second_states.ensures.next, moved, merged, begin, units, c.args.a.there.0, c.put_text-second_units.ensures.next))
+    rw c.units.ensures.1
+    (omega (arith, all, c.requires.room, c.put_header-first_states.ensures.place, c.copy_states-second_states.ensures.place, moved, merged, c.copy_units-second_units.ensures.place))
 
 pub put_units-requires-clause-fits : goal.put_units-requires-clause-fits
-put_units-requires-clause-fits c = rw (c.units-2.ensures.0, c.units-2.ensures.1, c.args.a.own, c.args.b.own) (units-fit c.args.a.bytes.now c.args.b.bytes.now c.requires.first c.requires.second c.requires.allowed)
+put_units-requires-clause-fits c = rw (c.units.ensures.0, c.units.ensures.1, c.args.a.own, c.args.b.own) (units-fit c.args.a.bytes.now c.args.b.bytes.now c.requires.first c.requires.second c.requires.allowed)
 
 pub returns : goal.returns
 returns c =
-    let s = c.args.a.bytes.now in
     let head = rw (c.requires.own, c.args.a.own, c.args.b.own) at c.put_header-first_states.ensures.put in
-    let n : 10 + 6 * c.args.a.header.states - 10 ≡ 6 * c.args.a.header.states = omega arith in
-    let states = rw (n, c.args.a.own) at c.put_text-second_states.ensures in
+    let states = rw c.args.a.own at c.copy_states-second_states.ensures.put in
     let moved = rw (c.states.ensures.0, c.states.ensures.1, c.args.a.own, c.args.b.own) at c.put_states-standards.ensures.put in
     let standards = rw (c.standards.ensures.0, c.standards.ensures.1, c.standards-2.ensures.0, c.standards-2.ensures.1, c.args.a.own, c.args.b.own) at c.put_standards-first_units.ensures.put in
-    let all = take_all (length s - c.begin.result) (drop c.begin.result s) (omega (arith, length-drop c.begin.result s)) in
-    let begin = rw (c.units.ensures.1, c.args.a.own) at c.begin.ensures in
-    let units = rw (all, begin) at c.put_text-second_units.ensures in
-    let last = rw (c.units-2.ensures.0, c.units-2.ensures.1, c.args.a.own, c.args.b.own) at c.put_units.ensures in
+    let units = rw c.args.a.own at c.copy_units-second_units.ensures.put in
+    let last = rw (c.units.ensures.0, c.units.ensures.1, c.args.a.own, c.args.b.own) at c.put_units.ensures in
     read_as (sym (all-parts c.args.a.bytes.now c.args.b.bytes.now c.requires.first c.requires.second c.requires.allowed c.requires.small)) ((then) head ((then) states ((then) moved ((then) standards ((then) units last)))))
