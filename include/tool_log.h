@@ -296,7 +296,7 @@ uint32_t tl_finish_log(const uint8_t *buf, size_t buf_len, size_t at, uint64_t r
  * logs that are exchanged, or have a day between them, are joined too.
  * The joined log is accepted. The state times and quantities of each module are the two logs' added, and each standard keeps its credited units.
  *
- * A `buf_len` of TL_LONGEST_LOG suffices. The buffer is apart from both logs, so three are joined with two buffers in turn; which two come first
+ * `first` and `second` may be the same bytes. A `buf_len` of TL_LONGEST_LOG suffices. The buffer is apart from both logs, so three are joined with two buffers in turn; which two come first
  * makes no difference to the bytes:
  *
  *     tl_join(monday, monday_len, tuesday, tuesday_len, two, TL_LONGEST_LOG, length, refusal)

@@ -1,4 +1,4 @@
-"""One log from consecutive ones: week.py RESULT LOG LOG.. Exit status: 0 joined, 1 refused, 2 too few names.
+"""One log from consecutive ones: week.py RESULT LOG LOG.. Exit status: 0 joined, 1 refused, 2 too few names, or a file that cannot be read or written.
 
 Joins the logs in this sequence, writes the joined log to the file RESULT and prints its report; or prints the refusal in words, behind the name of the
 log that it is about, and leaves RESULT alone. Where the logs so far are not to be joined with the next one, that is the next one's name.
@@ -38,4 +38,8 @@ def main():
 
 
 if __name__ == "__main__":
-    sys.exit(main())
+    try:
+        sys.exit(main())
+    except OSError as error:
+        print(f"week.py: {error}", file=sys.stderr)
+        sys.exit(2)

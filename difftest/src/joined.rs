@@ -174,6 +174,12 @@ impl Joined<'_> {
             let due = added(quantities);
             assert_eq!(sums.quantities.array(), due, "quantities not added");
         }
+        let tools = of_both.map(|log| log.account.tool);
+        let tool = &self.log.account.tool;
+        let due = added(tools.map(|it| it.state_times));
+        assert_eq!(tool.state_times, due, "the tool's state times not added");
+        let due = added(tools.map(|it| it.quantities.array()));
+        assert_eq!(tool.quantities.array(), due, "the tool's quantities not added");
         let [first, second] = of_both.map(|log| log.bytes.len());
         assert_eq!(self.log.bytes.len(), first + second - 10, "another length");
     }
