@@ -1,13 +1,13 @@
 -- The benchmarks tested and added, one by one; no sum of them comes near 2 ^ 63.
 -- Assumes nothing.
-use mathlib.Core.Path.{◌≡◌, refl, ap, ◌∙◌}
-use mathlib.Core.List.{List, [], ◌∷◌, ◌++◌, map}
-use Prim.Native.Nat.{ℕ, zero, suc, ◌+◌, ◌*◌, ◌^◌, ◌≤◌, ◌<◌}
+use mathlib.Core.Path.{◌≡◌}
+use mathlib.Core.List.{List}
+use Prim.Native.Nat.{ℕ, ◌+◌, ◌*◌, ◌^◌, ◌≤◌, ◌<◌}
 use native.Mathlib.Nat.{mul-le-mul}
 use native.Mathlib.Omega.{arith}
 use Rattle.bits.proofs.Fields.{field_lt}
 use Rattle.records.specs.declared.Header.{Header}
-use Rattle.records.specs.Log.{Log, up_to, header_of, standard_at, decode}
+use Rattle.records.specs.Log.{Log, header_of, standard_at, decode}
 use Rattle.records.proofs.UpTo.{length_up_to, up_to_at, map-up_to}
 use Rattle.records.proofs.Widths.{standard-time-low}
 use Rattle.rules.specs.Quantities.{sum_below}

@@ -8,20 +8,16 @@ use mathlib.Core.List.{List, [], ◌∷◌, ◌++◌, map, append_assoc, Memᴰ}
 use Prim.Native.Nat.{ℕ, ◌+◌}
 use native.Mathlib.Nat.{add_assoc}
 use Rattle.std.proofs.lemmas.List.{map-append}
-use Rattle.std.specs.declared.result.Result.TheVariants.{Ok}
-use Rattle.records.specs.declared.StateRecord.{StateRecord}
 use Rattle.records.specs.declared.Standard.{Standard}
-use Rattle.records.specs.declared.UnitRecord.{UnitRecord}
 use Rattle.records.specs.Encode.{encode}
 use Rattle.records.specs.Log.{Log, decode}
 use Rattle.rules.specs.Sequence.{is_rising, standard_key}
-use Rattle.rules.specs.Sound.{StandardSound, Sound}
-use Rattle.rules.specs.Verdict.{verdict}
-use Rattle.rules.proofs.Each.{each-so, rising}
+use Rattle.rules.specs.Sound.{Sound}
+use Rattle.rules.proofs.Each.{rising}
 use Rattle.rules.proofs.Sequence.{rising_same}
 use Rattle.sound.proofs.Encoded.{read}
 use Rattle.joining.specs.Joined.{state_up, standard_up, unit_up, joined_log}
-use Rattle.joining.specs.Joins.{join_grounds, joined_bytes, Grouped}
+use Rattle.joining.specs.Joins.{joined_bytes, Grouped}
 use Rattle.joining.specs.Merged.{merged}
 use Rattle.joining.proofs.JoinedBytes.{alike, joined-log}
 use Rattle.joining.proofs.JoinedLog.{joined-sound}
@@ -96,9 +92,9 @@ module _ (a b c : Log) (sa : Sound a) (sb : Sound b) (sc : Sound c) (ab : b.modu
       let right = joined-sound a (joined_log b c) sa (joined-sound b c sb sc bc) kept in
       let standards = merged-same a.period b.period a.standards b.standards c.standards (rising standard_key _ left.standards_rise) (rising standard_key _ right.standards_rise) in
       let states = followed (state_up a.period) (state_up b.period) (state_up (a.period + b.period))
-          (λ r. λ i. record { «module» = r.«module»; code = r.code; time = add_assoc a.period b.period r.time i; spare = r.spare }) a.states b.states c.states in
+      (λ r. λ i. record { «module» = r.«module»; code = r.code; time = add_assoc a.period b.period r.time i; spare = r.spare }) a.states b.states c.states in
       let units = followed (unit_up a.period) (unit_up b.period) (unit_up (a.period + b.period))
-          (λ u. λ i. record { «module» = u.«module»; recipe = u.recipe; time = add_assoc a.period b.period u.time i; actual = u.actual; effective = u.effective; spare = u.spare }) a.units b.units c.units in
+      (λ u. λ i. record { «module» = u.«module»; recipe = u.recipe; time = add_assoc a.period b.period u.time i; actual = u.actual; effective = u.effective; spare = u.spare }) a.units b.units c.units in
       λ i. record { period = add_assoc a.period b.period c.period i; modules = a.modules; states = states i; standards = standards i; units = units i }
 
 -- ---- bytes

@@ -6,7 +6,7 @@ use mathlib.Core.List.{List, map}
 use Prim.Native.Nat.{ℕ, ◌+◌, ◌*◌, ◌≤◌}
 use native.Mathlib.Omega.{arith}
 use lib.Dec.{eqb}
-use lib.ListN.{length, length-append}
+use lib.ListN.{length}
 use borrow.Author.Tests.{eqb-true, not-false}
 use Rattle.records.specs.Log.{Log, decode}
 use Rattle.records.specs.Encode.{header_for, encode}
@@ -24,7 +24,7 @@ use Rattle.rules.proofs.Each.{each-append, each-map}
 use Rattle.sound.proofs.Encoded.{encoded-says, encoded-accepted}
 use Rattle.judging.proofs.Bounds.{good-period, good-counts}
 use Rattle.sound.specs.Bounds.{Bounded, StandardNarrow, UnitNarrow, Writable, Read}
-use Rattle.joining.specs.Joined.{state_up, standard_up, unit_up, joined_log}
+use Rattle.joining.specs.Joined.{standard_up, unit_up, joined_log}
 use Rattle.joining.specs.Joins.{of_second, join_grounds, joined_bytes, Joined}
 use Rattle.joining.proofs.Counted.{states-counted, standards-counted, units-counted}
 use Rattle.joining.proofs.Merging.{merged-each}

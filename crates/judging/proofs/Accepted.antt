@@ -1,21 +1,21 @@
 -- What holds of the quantities of an accepted log: none passes the one before it, for each module and for the tool.
 -- Assumes nothing.
 use mathlib.Core.Path.{◌≡◌, sym, ◌∙◌}
-use mathlib.Core.Bool.{Bool, true, false, cond, ◌||◌, not}
+use mathlib.Core.Bool.{Bool, true, false, cond, ◌||◌}
 use mathlib.Core.List.{List, [], ◌∷◌, ◌++◌}
 use Prim.Native.Nat.{ℕ, suc, ◌*◌, ◌≤◌, ◌<◌}
 use native.Mathlib.Nat.{mul-le-mul_right, mul-le-mul, le_refl}
 use native.Mathlib.Omega.{arith}
-use lib.Dec.{leb, ltb, eqb}
+use lib.Dec.{ltb, eqb}
 use borrow.Author.Tests.{ltb-false, le-ltb}
 use Rattle.records.specs.declared.Standard.{Standard}
 use Rattle.records.specs.declared.UnitRecord.{UnitRecord}
 use Rattle.records.specs.Log.{Log}
 use Rattle.e79.specs.Quantities.{Ordered}
-use Rattle.rules.specs.declared.Ground.TheVariants.{Spare, StrayModule, Outside, OverGood, TooFast, TooGreat}
-use Rattle.rules.specs.declared.LogList.TheVariants.{NoList, Units}
+use Rattle.rules.specs.declared.Ground.TheVariants.{TooFast, TooGreat}
+use Rattle.rules.specs.declared.LogList.TheVariants.{NoList}
 use Rattle.std.specs.declared.result.Result.TheVariants.{Ok, Err}
-use Rattle.rules.specs.Grounds.{Verdict, refusal, ground, first_of, in_turn}
+use Rattle.rules.specs.Grounds.{Verdict, refusal, first_of, in_turn}
 use Rattle.rules.specs.Theoretical.{in_force, time_of, credit, theoretical_time}
 use Rattle.rules.specs.RecordGrounds.{unit_ground, unit_grounds}
 use Rattle.rules.specs.Quantities.{time_in, uptime, actual_time, effective_time, sum_below, module_times, all_times, of_tool, tool_times}

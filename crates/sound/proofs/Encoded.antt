@@ -1,15 +1,13 @@
 -- A sound log within the bounds, written as bytes, is accepted and says what the log has.
 -- Assumes nothing.
 use mathlib.Core.Path.{◌≡◌, refl, ap, ◌∙◌}
-use mathlib.Core.Bool.{false, ◌||◌}
+use mathlib.Core.Bool.{◌||◌}
 use mathlib.Core.List.{List, [], ◌∷◌}
-use Prim.Native.Nat.{ℕ, zero, suc, ◌+◌, ◌*◌, ◌≤◌, ◌<◌}
+use Prim.Native.Nat.{ℕ, zero, suc, ◌+◌, ◌*◌}
 use native.Mathlib.Omega.{arith}
-use lib.Dec.{ltb, eqb}
 use lib.ListN.{length}
-use borrow.Author.Tests.{eq-eqb, ne_eqb, eqb-true, eqb-false, ltb-false, le-ltb, not-false}
+use borrow.Author.Tests.{eq-eqb, ne_eqb, le-ltb}
 use Rattle.bits.specs.Put.{Slot, Fit}
-use Rattle.records.specs.declared.Header.{Header}
 use Rattle.records.specs.Log.{Log, header_of, state_at, standard_at, unit_at, up_to, decode}
 use Rattle.records.specs.Encode.{state_slots, standard_slots, unit_slots, encode, AllFit, LogFits}
 use Rattle.records.proofs.UpTo.{length_up_to}
@@ -24,11 +22,10 @@ use Rattle.rules.specs.Quantities.{time_in, actual_time, of_tool, tool_times}
 use Rattle.rules.specs.RecordGrounds.{state_ground, opening_ground, state_grounds, standard_ground, standard_grounds, unit_ground, unit_grounds}
 use Rattle.rules.specs.Sequence.{state_key, standard_key, unit_key}
 use Rattle.rules.specs.Verdict.{any_over, any_time_over, fast_ground, sum_grounds, header_grounds, record_grounds, verdict}
-use Rattle.rules.proofs.FirstGround.{then-left, then-right, not-met}
+use Rattle.rules.proofs.FirstGround.{then-right}
 use Rattle.rules.specs.Lists.{Each}
 use Rattle.rules.proofs.Each.{each-both, each-append}
 use Rattle.rules.specs.Sound.{StateSound, StandardSound, UnitSound, Sound}
-use Rattle.rules.proofs.Booleans.{or_left, or_right}
 use Rattle.rules.proofs.Sound.{no-ground, then-both, first-of, list-passes, state-tests, standard-tests, unit-tests, sound}
 use Rattle.sound.specs.Bounds.{Bounded, StandardNarrow, UnitNarrow, Writable, Read}
 use Rattle.judging.specs.Working.{Grounded}

@@ -15,9 +15,8 @@ use Rattle.rules.specs.declared.Ground.TheVariants.{Length, Spare, NoTime, Above
 use Rattle.rules.specs.declared.LogList.TheVariants.{Benchmarks}
 use Rattle.std.specs.declared.result.Result.TheVariants.{Ok, Err}
 use Rattle.rules.specs.Grounds.{Verdict, ground, first_of, ◌then◌}
-use Rattle.rules.specs.Verdict.{header_grounds, record_grounds, verdict}
+use Rattle.rules.specs.Verdict.{verdict}
 use Rattle.rules.specs.Refusals.{OfLog, benchmark_refusals}
-use Rattle.rules.proofs.FirstGround.{then-left}
 use Rattle.rules.proofs.Given.{given_refused, given_answered}
 use Rattle.rules.proofs.KnownRefusals.{AllKnown, known_ground, known_then, known_first}
 use Rattle.judging.proofs.Judging.{Counted, accepted_counts}

@@ -4,7 +4,6 @@ use mathlib.Core.Path.{◌≡◌, refl, ap, ◌∙◌}
 use mathlib.Core.Bool.{Bool, true, false, ◌&&◌, not}
 use mathlib.Core.List.{List}
 use Prim.Native.Nat.{ℕ, ◌+◌, ◌*◌}
-use borrow.Author.Tests.{eqb-true, not-false}
 use lib.Dec.{leb, ltb, eqb}
 use Rattle.records.specs.declared.Header.{Header}
 use Rattle.records.specs.declared.Standard.{Standard}
@@ -16,7 +15,6 @@ use Rattle.rules.specs.declared.LogList.TheVariants.{Standards}
 use Rattle.rules.specs.Grounds.{Verdict, ground, ◌then◌}
 use Rattle.rules.specs.Keys.{standard_number, StandardFits, StandardsSequenced}
 use Rattle.rules.specs.RecordGrounds.{is_among, standard_ground}
-use Rattle.rules.proofs.FirstGround.{then-left, not-met}
 use Rattle.rules.proofs.Sound.{standard-tests}
 use Rattle.rules.proofs.Spared.{not-among}
 

@@ -19,7 +19,6 @@ use Rattle.rules.specs.Grounds.{Verdict, ground, ◌then◌}
 use Rattle.rules.specs.Verdict.{bad_period, bad_modules, bad_counts, bad_length, header_grounds, record_grounds, verdict}
 use Rattle.judging.proofs.Bounds.{good-counts}
 use Rattle.judging.proofs.Judging.{accepted_counts}
-use Rattle.rules.proofs.FirstGround.{then-left}
 
 pub longest-log : (s : List ℕ) → verdict s ≡ Ok tt → length s ≤ 63130
 longest-log s a = let n = accepted_counts s a in omega (arith, n.whole, n.counts)

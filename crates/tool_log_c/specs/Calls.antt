@@ -1,7 +1,7 @@
 -- What each C function does: its flag, and what the caller's arrays hold in the end, for the verdict and the values that `tool_log` answers.
 -- Definitions only.
 use Rattle.std.specs.Prelude.{◌≡◌, List, [], ◌∷◌, ◌++◌, ℕ, ◌+◌, ◌≤◌, length, drop, Float}
-use Rattle.records.specs.Log.{Log, header_of, standard_at, decode}
+use Rattle.records.specs.Log.{header_of, standard_at, decode}
 use Rattle.e79.specs.declared.Quantities.{Quantities}
 use Rattle.e79.specs.Quantities.{Ordered, quantities_of}
 use Rattle.e79.specs.Doubles.{figures_of}

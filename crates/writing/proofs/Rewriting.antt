@@ -2,31 +2,18 @@
 -- holds each record, so that no call is refused.
 -- Assumes nothing.
 use mathlib.Core.Path.{◌≡◌, sym, ap, ap₂, ◌∙◌}
-use mathlib.Core.Bool.{not}
-use mathlib.Core.List.{List, [], ◌∷◌, ◌++◌}
-use Prim.Native.Nat.{ℕ, suc}
+use mathlib.Core.List.{List, ◌++◌}
+use Prim.Native.Nat.{ℕ}
 use native.Mathlib.Omega.{arith}
-use lib.Dec.{eqb}
 use lib.ListN.{length, drop, take-append-drop}
 use lib.Seq.{length-take-le}
-use borrow.Author.Tests.{eqb-true, not-false}
-use Rattle.records.specs.declared.StateRecord.{StateRecord}
-use Rattle.records.specs.declared.Standard.{Standard}
-use Rattle.records.specs.declared.UnitRecord.{UnitRecord}
 use Rattle.records.specs.Log.{decode}
 use Rattle.records.specs.Encode.{encode, joined}
 use Rattle.records.proofs.RoundTrip.{encode-decode}
 use Rattle.records.proofs.Widths.{decode-fits}
-use Rattle.rules.specs.declared.Ground.{Ground}
-use Rattle.rules.specs.declared.Ground.TheVariants.{Spare}
-use Rattle.rules.specs.declared.LogList.{LogList}
-use Rattle.rules.specs.declared.LogList.TheVariants.{States, Standards, Units}
-use Rattle.rules.specs.Grounds.{Verdict}
 use Rattle.std.specs.declared.result.Result.TheVariants.{Ok}
-use Rattle.rules.specs.Grounds.{ground, ◌then◌, first_of, in_turn}
-use Rattle.rules.specs.RecordGrounds.{state_ground, opening_ground, state_grounds, standard_ground, standard_grounds, unit_ground, unit_grounds}
-use Rattle.rules.specs.Verdict.{header_grounds, sum_grounds, record_grounds, verdict}
-use Rattle.rules.proofs.FirstGround.{then-left, then-right, not-met}
+use Rattle.rules.specs.Verdict.{header_grounds, record_grounds, verdict}
+use Rattle.rules.proofs.FirstGround.{then-right}
 use Rattle.rules.specs.Sound.{StateSound, StandardSound, UnitSound, Sound}
 use Rattle.rules.proofs.Each.{each-so}
 use Rattle.rules.proofs.Sound.{sound}

@@ -1,10 +1,9 @@
 -- `joining::copy_states` meets its contract: they are all there, behind the header. Assumes nothing.
 use mathlib.Core.Path.{◌≡◌}
-use Prim.Native.Nat.{◌+◌, ◌*◌, ◌-◌, ◌≤◌}
+use Prim.Native.Nat.{◌+◌, ◌*◌, ◌-◌}
 use native.Mathlib.Omega.{arith}
-use lib.ListN.{length, take, drop, length-drop}
+use lib.ListN.{drop, length-drop}
 use lib.Seq.{length-take-le}
-use Rattle.filling.proofs.Written.{read_as}
 use Rattle.joining.proofs.copy_states.Goals as goal
 
 pub put_text-requires : goal.put_text-requires
