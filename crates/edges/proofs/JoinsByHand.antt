@@ -2,8 +2,8 @@
 use mathlib.Core.Path.{refl}
 use Rattle.bits.specs.Put.{number, bytes_of, put_bit}
 use Rattle.records.specs.Encode.{encode}
-use Rattle.joining.specs.Joined.{joined_log}
-use Rattle.joining.specs.Joins.{join_grounds}
+use Rattle.joined.specs.Joined.{joined_log}
+use Rattle.joined.specs.Joins.{join_grounds}
 use Rattle.edges.specs.Joins.{Joins, earlier, later, together}
 use Rattle.edges.proofs.ByStretches.{verdict_by, verdict_by-stretches}
 

@@ -8,8 +8,8 @@ use Rattle.rules.specs.declared.Ground.TheVariants.{Period, UnlikeTools}
 use Rattle.rules.specs.declared.LogList.TheVariants.{NoList}
 use Rattle.rules.specs.Grounds.{refusal}
 use Rattle.rules.specs.Verdict.{verdict}
-use Rattle.joining.specs.Joined.{joined_log}
-use Rattle.joining.specs.Joins.{join_grounds}
+use Rattle.joined.specs.Joined.{joined_log}
+use Rattle.joined.specs.Joins.{join_grounds}
 use Rattle.edges.specs.Cases.{state, standard_of, log}
 
 -- units of a recipe that module 0 made

@@ -20,10 +20,10 @@ use Rattle.rules.specs.Grounds.{Verdict, ground, ◌then◌}
 use Rattle.rules.specs.Verdict.{verdict}
 use Rattle.rules.proofs.Given.{front_refused, front_put}
 use Rattle.sound.proofs.Encoded.{read}
-use Rattle.joining.specs.Joins.{of_second, join_grounds, joined_bytes, join_verdict, Joins}
+use Rattle.joined.specs.Joins.{of_second, join_grounds, joined_bytes, join_verdict, Joins}
 use Rattle.joining.specs.Parts.{InBounds}
-use Rattle.joining.proofs.JoinedBytes.{joined-log, joined-size}
-use Rattle.joining.proofs.JoinRefusals.{of-join}
+use Rattle.joined.proofs.JoinedBytes.{joined-log, joined-size}
+use Rattle.joined.proofs.JoinRefusals.{of-join}
 
 -- the header of an accepted log
 pub in-bounds : (s : List ℕ) → verdict s ≡ Ok tt → InBounds (header_of s)

@@ -29,12 +29,12 @@ use Rattle.rules.specs.Verdict.{bad_period, bad_counts, verdict}
 use Rattle.rules.proofs.Each.{each-left, each-right}
 use Rattle.rules.proofs.Risen.{risen, whole_length}
 use Rattle.sound.proofs.Encoded.{read, fits}
-use Rattle.joining.specs.Joined.{state_up, unit_up, joined_log}
-use Rattle.joining.specs.Joins.{join_grounds, joined_bytes}
+use Rattle.joined.specs.Joined.{state_up, unit_up, joined_log}
+use Rattle.joined.specs.Joins.{join_grounds, joined_bytes}
 use Rattle.joining.specs.Parts.{joined_header, header_verdict}
 use Rattle.joining.specs.Turns.{Mergeable}
-use Rattle.joining.proofs.Counted.{states-counted, standards-counted, units-counted}
-use Rattle.joining.proofs.JoinedBytes.{joined-length, joined-writable}
+use Rattle.joined.proofs.Counted.{states-counted, standards-counted, units-counted}
+use Rattle.joined.proofs.JoinedBytes.{joined-length, joined-writable}
 use Rattle.joining.proofs.Turning.{both}
 
 -- ---- the bytes

@@ -1,16 +1,5 @@
-pub mod Merging
-pub mod MergeLoop
-pub mod Up
-pub mod JoinedTimes
-pub mod JoinedStandards
-pub mod JoinedUnits
-pub mod Counted
-pub mod JoinedLog
-pub mod JoinedBytes
-pub mod JoinRefusals
 pub mod MovedBytes
 pub mod MovedLists
 pub mod Turning
 pub mod Laid
 pub mod Answering
-pub mod Grouped

@@ -22,7 +22,7 @@ use Rattle.records.specs.Log.{state_at, standard_at, unit_at}
 use Rattle.records.proofs.RecordKinds.{Kind, state-kind, standard-kind, unit-kind}
 use Rattle.records.proofs.Widths.{state-fits, standard-fits, unit-fits}
 use Rattle.writing.proofs.Bytes.{value_of, record-bytes}
-use Rattle.joining.specs.Joined.{state_up, standard_up, unit_up}
+use Rattle.joined.specs.Joined.{state_up, standard_up, unit_up}
 
 -- ---- the number of what is read
 

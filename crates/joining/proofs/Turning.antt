@@ -29,11 +29,11 @@ use Rattle.rules.specs.Sequence.{standard_key}
 use Rattle.rules.proofs.Booleans.{false-true}
 use Rattle.rules.proofs.Each.{rises, rises-map}
 use Rattle.rules.proofs.Keys.{standards-below}
-use Rattle.joining.specs.Joined.{standard_up}
-use Rattle.joining.specs.Merged.{merged}
+use Rattle.joined.specs.Joined.{standard_up}
+use Rattle.joined.specs.Merged.{merged}
 use Rattle.joining.specs.Turns.{Mergeable, Left, Next}
-use Rattle.joining.proofs.MergeLoop.{take-first, take-second}
-use Rattle.joining.proofs.Up.{standard-up}
+use Rattle.joined.proofs.MergeLoop.{take-first, take-second}
+use Rattle.joined.proofs.Up.{standard-up}
 
 -- ---- a standard's key as a number
 

@@ -1,5 +1,2 @@
-pub mod Merged
-pub mod Joined
-pub mod Joins
 pub mod Turns
 pub mod Parts

@@ -7,8 +7,8 @@ use Rattle.records.specs.declared.Standard.{Standard}
 use Rattle.records.specs.Log.{standard_at, up_to}
 use Rattle.rules.specs.Lists.{Before}
 use Rattle.rules.specs.Sequence.{is_rising, standard_key}
-use Rattle.joining.specs.Joined.{standard_up}
-use Rattle.joining.specs.Merged.{merged}
+use Rattle.joined.specs.Joined.{standard_up}
+use Rattle.joined.specs.Merged.{merged}
 
 -- both lists rise, each of the first starts before p, and each start of the second still fits its field
 pub record Mergeable (a : ℕ → Standard) (n : ℕ) (b : ℕ → Standard) (k p : ℕ) : Type 0 where

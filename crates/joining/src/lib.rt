@@ -15,7 +15,7 @@ ghost use Rattle.records.specs.Whole.{units_begin};
 ghost use Rattle.rules.specs.Answers.{answer_of};
 ghost use Rattle.rules.specs.SameRecords.{Bytes};
 ghost use Rattle.rules.specs.Verdict.{verdict};
-ghost use Rattle.joining.specs.Joins.{joined_bytes, join_grounds, of_second, Joins};
+ghost use Rattle.joined.specs.Joins.{joined_bytes, join_grounds, of_second, Joins};
 ghost use Rattle.joining.specs.Parts.{joined_header, header_verdict, InBounds};
 
 use judging::Account;

@@ -7,7 +7,7 @@ ghost use Rattle.records.specs.Covers.{Covers};
 ghost use Rattle.records.specs.Encode.{state_bytes, standard_bytes, unit_bytes, joined};
 ghost use Rattle.records.specs.Log.{state_at, standard_at, unit_at, up_to};
 ghost use Rattle.filling.specs.Buffer.{Put, big_endian};
-ghost use Rattle.joining.specs.Joined.{state_up, standard_up, unit_up};
+ghost use Rattle.joined.specs.Joined.{state_up, standard_up, unit_up};
 
 use records::{StandardRecords, StateRecords, UnitRecords};
 

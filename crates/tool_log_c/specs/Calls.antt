@@ -20,7 +20,7 @@ use Rattle.rules.specs.Refusals.{OfLog}
 use Rattle.reporting.specs.Reports.{verdict_for_text, verdict_for, ForText, ForRoom}
 use Rattle.crediting.specs.Calls.{AllCredited, in_force_of, Uses}
 use Rattle.listing.specs.Listings.{credit_listing}
-use Rattle.joining.specs.Joins.{join_verdict, joined_bytes, OfJoin, Joined}
+use Rattle.joined.specs.Joins.{join_verdict, joined_bytes, OfJoin, Joined}
 use Rattle.benchmarks.specs.Benchmarks.{benchmark_at, verdict_with}
 use Rattle.supplemental.specs.Supplemental.{supplemental_of, supplementals_of, AllRounded}
 use Rattle.supplemental.specs.Calls.{WithBenchmarks}

@@ -2,7 +2,7 @@
 use native.Mathlib.Omega.{arith}
 use Rattle.records.specs.Encode.{state_slots}
 use Rattle.records.specs.Log.{state_at}
-use Rattle.joining.specs.Joined.{state_up}
+use Rattle.joined.specs.Joined.{state_up}
 use Rattle.joining.proofs.MovedLists.{moved_none, moved_room, moved_more, moved_all, moved_place}
 use Rattle.joining.proofs.moved.put_states.Goals as goal
 

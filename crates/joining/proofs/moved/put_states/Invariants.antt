@@ -1,7 +1,7 @@
 -- The records ahead of the one in turn are written.
 use Rattle.records.specs.Encode.{state_slots}
 use Rattle.records.specs.Log.{state_at}
-use Rattle.joining.specs.Joined.{state_up}
+use Rattle.joined.specs.Joined.{state_up}
 use Rattle.joining.proofs.MovedLists.{MovedSoFar}
 use Rattle.joining.proofs.moved.put_states.Given as goal
 

@@ -2,7 +2,7 @@
 use native.Mathlib.Omega.{arith}
 use Rattle.records.specs.Encode.{unit_slots}
 use Rattle.records.specs.Log.{unit_at}
-use Rattle.joining.specs.Joined.{unit_up}
+use Rattle.joined.specs.Joined.{unit_up}
 use Rattle.joining.proofs.MovedLists.{moved_none, moved_room, moved_more, moved_all}
 use Rattle.joining.proofs.moved.put_units.Goals as goal
 

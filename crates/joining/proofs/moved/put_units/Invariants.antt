@@ -1,7 +1,7 @@
 -- The records ahead of the one in turn are written.
 use Rattle.records.specs.Encode.{unit_slots}
 use Rattle.records.specs.Log.{unit_at}
-use Rattle.joining.specs.Joined.{unit_up}
+use Rattle.joined.specs.Joined.{unit_up}
 use Rattle.joining.proofs.MovedLists.{MovedSoFar}
 use Rattle.joining.proofs.moved.put_units.Given as goal
 

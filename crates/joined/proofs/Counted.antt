@@ -7,8 +7,8 @@ use lib.ListN.{length, length-append}
 use Rattle.std.proofs.lemmas.List.{length-map}
 use Rattle.records.specs.Log.{Log}
 use Rattle.rules.specs.Sequence.{standard_key}
-use Rattle.joining.specs.Joined.{state_up, standard_up, unit_up, joined_log}
-use Rattle.joining.proofs.Merging.{merged-length}
+use Rattle.joined.specs.Joined.{state_up, standard_up, unit_up, joined_log}
+use Rattle.joined.proofs.Merging.{merged-length}
 
 module _ (a b : Log) where
   pub states-counted : length (joined_log a b).states ≡ length a.states + length b.states

@@ -24,11 +24,11 @@ use Rattle.rules.proofs.Each.{each-append, each-map}
 use Rattle.sound.proofs.Encoded.{encoded-says, encoded-accepted}
 use Rattle.judging.proofs.Bounds.{good-period, good-counts}
 use Rattle.sound.specs.Bounds.{Bounded, StandardNarrow, UnitNarrow, Writable, Read}
-use Rattle.joining.specs.Joined.{standard_up, unit_up, joined_log}
-use Rattle.joining.specs.Joins.{of_second, join_grounds, joined_bytes, Joined}
-use Rattle.joining.proofs.Counted.{states-counted, standards-counted, units-counted}
-use Rattle.joining.proofs.Merging.{merged-each}
-use Rattle.joining.proofs.JoinedLog.{sums-added, tool-times-added, tool-added, credits-kept, joined-sound}
+use Rattle.joined.specs.Joined.{standard_up, unit_up, joined_log}
+use Rattle.joined.specs.Joins.{of_second, join_grounds, joined_bytes, Joined}
+use Rattle.joined.proofs.Counted.{states-counted, standards-counted, units-counted}
+use Rattle.joined.proofs.Merging.{merged-each}
+use Rattle.joined.proofs.JoinedLog.{sums-added, tool-times-added, tool-added, credits-kept, joined-sound}
 
 module _ (a b : Log) where
   pub joined-length : length (encode (joined_log a b)) ≡ 10 + 6 * (length a.states + length b.states) + 10 * (length a.standards + length b.standards) + 11 * (length a.units + length b.units)

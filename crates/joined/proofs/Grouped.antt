@@ -16,13 +16,13 @@ use Rattle.rules.specs.Sound.{Sound}
 use Rattle.rules.proofs.Each.{rising}
 use Rattle.rules.proofs.Sequence.{rising_same}
 use Rattle.sound.proofs.Encoded.{read}
-use Rattle.joining.specs.Joined.{state_up, standard_up, unit_up, joined_log}
-use Rattle.joining.specs.Joins.{joined_bytes, Grouped}
-use Rattle.joining.specs.Merged.{merged}
-use Rattle.joining.proofs.JoinedBytes.{alike, joined-log}
-use Rattle.joining.proofs.JoinedLog.{joined-sound}
-use Rattle.joining.proofs.JoinedStandards.{Moved, origin, map-member}
-use Rattle.joining.proofs.Merging.{merged-first, merged-second}
+use Rattle.joined.specs.Joined.{state_up, standard_up, unit_up, joined_log}
+use Rattle.joined.specs.Joins.{joined_bytes, Grouped}
+use Rattle.joined.specs.Merged.{merged}
+use Rattle.joined.proofs.JoinedBytes.{alike, joined-log}
+use Rattle.joined.proofs.JoinedLog.{joined-sound}
+use Rattle.joined.proofs.JoinedStandards.{Moved, origin, map-member}
+use Rattle.joined.proofs.Merging.{merged-first, merged-second}
 
 -- ---- records that follow
 

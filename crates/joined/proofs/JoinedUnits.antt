@@ -20,8 +20,8 @@ use Rattle.rules.specs.Lists.{Each, Rises}
 use Rattle.rules.proofs.Each.{each-so, each-map}
 use Rattle.rules.specs.Sound.{UnitSound}
 use Rattle.sound.proofs.Force.{each-member, at-member, same-record, same-index, Answered, answered, Judge, judge}
-use Rattle.joining.specs.Joined.{standard_up, unit_up}
-use Rattle.joining.proofs.JoinedStandards.{both, both-rise, holds-before, holds-after}
+use Rattle.joined.specs.Joined.{standard_up, unit_up}
+use Rattle.joined.proofs.JoinedStandards.{both, both-rise, holds-before, holds-after}
 
 -- ---- sums over unit records that keep their standard
 

@@ -13,7 +13,7 @@ use Rattle.rules.specs.Sequence.{standard_key}
 use Rattle.rules.specs.Time.{code_at, count}
 use Rattle.rules.specs.Quantities.{time_in, of_module}
 use Rattle.rules.specs.Credited.{nth, credited_to}
-use Rattle.joining.specs.Merged.{merged}
+use Rattle.joined.specs.Merged.{merged}
 
 -- ---- a record of the second log, whose times move up by the first's period
 

@@ -17,8 +17,8 @@ use Rattle.rules.specs.Sequence.{is_below, state_key, standard_key, unit_key}
 use Rattle.rules.specs.Time.{keep, code_at}
 use Rattle.rules.proofs.Sequence.{Lower, lower, below}
 use Rattle.rules.specs.Lists.{Before}
-use Rattle.joining.specs.Joined.{state_up, standard_up, unit_up}
-use Rattle.joining.proofs.Merging.{Apart}
+use Rattle.joined.specs.Joined.{state_up, standard_up, unit_up}
+use Rattle.joined.proofs.Merging.{Apart}
 
 module _ (p : ℕ) where
   up : (x y : ℕ) (j k : List ℕ) → Lower x y j k → Lower (p + x) (p + y) j k

@@ -14,7 +14,7 @@ use Rattle.rules.specs.Names.{number_of, list_number, list_of_second}
 use Rattle.rules.specs.Quantities.{of_tool, tool_times}
 use Rattle.rules.specs.Refusals.{OfLog, Known, join_refusals}
 use Rattle.rules.specs.Verdict.{bad_period, bad_counts, verdict}
-use Rattle.joining.specs.Joined.{joined_log, added, times_added, SumsAdded, CreditsKept}
+use Rattle.joined.specs.Joined.{joined_log, added, times_added, SumsAdded, CreditsKept}
 
 -- ---- when a join is refused
 

@@ -10,10 +10,10 @@ use Rattle.rules.specs.Sequence.{standard_key}
 use Rattle.rules.specs.Lists.{Each, Before, Rises}
 use Rattle.rules.proofs.Each.{each-so, each-image, rises-map}
 use Rattle.sound.proofs.Force.{Applies, each-member, members-each, Holds}
-use Rattle.joining.specs.Joined.{standard_up}
-use Rattle.joining.specs.Merged.{merged}
-use Rattle.joining.proofs.Merging.{Apart, merged-each, merged-first, merged-second, merged-rises}
-use Rattle.joining.proofs.Up.{standard-up, start-apart}
+use Rattle.joined.specs.Joined.{standard_up}
+use Rattle.joined.specs.Merged.{merged}
+use Rattle.joined.proofs.Merging.{Apart, merged-each, merged-first, merged-second, merged-rises}
+use Rattle.joined.proofs.Up.{standard-up, start-apart}
 
 pub map-member : {A B : Type 0} (f : A → B) {a : A} {rs : List A} → Memᴰ a rs → Memᴰ (f a) (map f rs)
 map-member f (Memᴰ.head e) = Memᴰ.head (ap f e)

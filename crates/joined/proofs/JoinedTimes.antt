@@ -15,8 +15,8 @@ use Rattle.rules.specs.Quantities.{time_in}
 use Rattle.rules.proofs.Each.{each-image}
 use Rattle.states.proofs.Count.{count-agree}
 use Rattle.sound.proofs.Codes.{count-add, or_else, found-first, code-append, code-later, opened-found}
-use Rattle.joining.specs.Joined.{state_up, joined_log, time_with}
-use Rattle.joining.proofs.Up.{code-up}
+use Rattle.joined.specs.Joined.{state_up, joined_log, time_with}
+use Rattle.joined.proofs.Up.{code-up}
 
 module _ (p m : ℕ) (ps qs : List StateRecord) where
   pub before : (t : ℕ) → t < p → code_at (ps ++ map (state_up p) qs) m t ≡ code_at ps m t

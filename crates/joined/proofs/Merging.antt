@@ -14,7 +14,7 @@ use Rattle.rules.proofs.Sequence.{below-trans, below-itself}
 use Rattle.rules.specs.Lists.{Each, Before, Rises}
 use Rattle.rules.proofs.Each.{each-so}
 use Rattle.rules.proofs.Sound.{is-false}
-use Rattle.joining.specs.Merged.{placed_in, merged}
+use Rattle.joined.specs.Merged.{placed_in, merged}
 
 module _ {A : Type 0} (key : A → List ℕ) where
   -- one of the two comes before the other

@@ -10,8 +10,8 @@ use lib.Seq.{drop-cons}
 use Rattle.rules.proofs.Sequence.{below-trans}
 use Rattle.rules.specs.Lists.{Each, Before, Rises}
 use Rattle.rules.proofs.Each.{each-so}
-use Rattle.joining.specs.Merged.{merged}
-use Rattle.joining.proofs.Merging.{merge-first, merge-second}
+use Rattle.joined.specs.Merged.{merged}
+use Rattle.joined.proofs.Merging.{merge-first, merge-second}
 
 module _ {A : Type 0} (key : A → List ℕ) (d : A) where
   pub drop-rises : (rs : List A) (i : ℕ) → Rises key rs → Rises key (drop i rs)

@@ -24,9 +24,9 @@ use Rattle.rules.specs.Refusals.{Row, row, log_refusals, rows_of_second, join_re
 use Rattle.rules.specs.Verdict.{bad_period, bad_counts, verdict}
 use Rattle.rules.proofs.FirstGround.{refused-not}
 use Rattle.rules.proofs.KnownRefusals.{log-refusal}
-use Rattle.joining.specs.Joined.{joined_log}
-use Rattle.joining.specs.Joins.{shifted, of_second, join_grounds, joined_bytes, join_verdict, Shifted, WhyRefused, OfJoin}
-use Rattle.joining.proofs.JoinedBytes.{second-accepted}
+use Rattle.joined.specs.Joined.{joined_log}
+use Rattle.joined.specs.Joins.{shifted, of_second, join_grounds, joined_bytes, join_verdict, Shifted, WhyRefused, OfJoin}
+use Rattle.joined.proofs.JoinedBytes.{second-accepted}
 
 -- ---- a refusal in a sequence of grounds
 

@@ -26,13 +26,13 @@ use Rattle.rules.specs.Lists.{Each, Before, Rises}
 use Rattle.rules.proofs.Each.{each-so, each-append, each-map, each-image, rises-append, rises-map}
 use Rattle.rules.specs.Sound.{StateSound, StandardSound, UnitSound, Sound}
 use Rattle.sound.proofs.Force.{at-member, member-at, not-none}
-use Rattle.joining.specs.Joined.{state_up, standard_up, unit_up, joined_log, added, times_added, SumsAdded, IsOfFirst, IsOfSecond, CreditsKept}
-use Rattle.joining.proofs.Merging.{merged-each, merged-first, merged-second}
-use Rattle.joining.proofs.Up.{state-up, unit-up, state-before, unit-before}
-use Rattle.joining.proofs.JoinedTimes.{times-added, states-added}
-use Rattle.joining.proofs.JoinedStandards.{origin, both-rise, map-member}
-use Rattle.joining.proofs.Counted.{standards-counted}
-use Rattle.joining.proofs.JoinedUnits.{first-judged, second-judged, theoretical-added, first-kept, second-kept}
+use Rattle.joined.specs.Joined.{state_up, standard_up, unit_up, joined_log, added, times_added, SumsAdded, IsOfFirst, IsOfSecond, CreditsKept}
+use Rattle.joined.proofs.Merging.{merged-each, merged-first, merged-second}
+use Rattle.joined.proofs.Up.{state-up, unit-up, state-before, unit-before}
+use Rattle.joined.proofs.JoinedTimes.{times-added, states-added}
+use Rattle.joined.proofs.JoinedStandards.{origin, both-rise, map-member}
+use Rattle.joined.proofs.Counted.{standards-counted}
+use Rattle.joined.proofs.JoinedUnits.{first-judged, second-judged, theoretical-added, first-kept, second-kept}
 
 -- a module that a list opens is opened by it with more behind
 pub first-append : (m : ℕ) (rs qs : List StateRecord) → is_opening (first_time m rs) ≡ true → is_opening (first_time m (rs ++ qs)) ≡ true

@@ -1,0 +1,11 @@
+pub mod Merging
+pub mod MergeLoop
+pub mod Up
+pub mod JoinedTimes
+pub mod JoinedStandards
+pub mod JoinedUnits
+pub mod Counted
+pub mod JoinedLog
+pub mod JoinedBytes
+pub mod JoinRefusals
+pub mod Grouped
