@@ -1,0 +1,4 @@
+pub mod Packed
+pub mod OnePass
+pub mod Claims
+pub mod Packs
