@@ -1,0 +1,5 @@
+pub mod Without
+pub mod Changes
+pub mod Codes
+pub mod Times
+pub mod OnePass
