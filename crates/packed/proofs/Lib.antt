@@ -3,3 +3,5 @@ pub mod Changes
 pub mod Codes
 pub mod Times
 pub mod OnePass
+pub mod Fewest
+pub mod PackedLists
