@@ -68,7 +68,7 @@ module _ {A K : Type 0} (kind : Setting A K) where
     pub it : A
     pub listed : Memᴰ it qs
     pub own : kind.subject it ≡ k
-    pub then : kind.time it ≡ n
+    pub moment : kind.time it ≡ n
 
   abbrev Matched : List A → A → Type 0
   Matched ys x = Partner (kind.subject x) (kind.time x) ys
@@ -85,9 +85,9 @@ module _ {A K : Type 0} (kind : Setting A K) where
           elim (d.others v.it v.listed) [
             | inl q ↦
                 let s : kind.subject x ≡ kind.subject a = sym w.own ∙ ap (kind.subject) (sym q) ∙ v.own in
-                let t : kind.time x ≡ kind.time a = sym w.then ∙ ap (kind.time) (sym q) ∙ v.then in
+                let t : kind.time x ≡ kind.time a = sym w.moment ∙ ap (kind.time) (sym q) ∙ v.moment in
                 absurd (omega (arith, l s, t))
-            | inr n ↦ record { it = v.it; listed = n; own = v.own; then = v.then }
+            | inr n ↦ record { it = v.it; listed = n; own = v.own; moment = v.moment }
           ]
 
   -- ---- a value that changes
@@ -106,12 +106,12 @@ module _ {A K : Type 0} (kind : Setting A K) where
     search-for [] k n = inr tt
     search-for (r ∷ qs) k n =
         elim (search-for qs k n) [
-          | inl p ↦ inl (record { it = p.it; listed = Memᴰ.tail p.listed; own = p.own; then = p.then })
+          | inl p ↦ inl (record { it = p.it; listed = Memᴰ.tail p.listed; own = p.own; moment = p.moment })
           | inr f ↦ step (kind.meets k n r) refl (ℕ_discrete (kind.time r) n) f
         ]
       where
         step : (b : Bool) → kind.meets k n r ≡ b → Dec (kind.time r ≡ n) → Each (Elsewhere k n) qs → Partner k n (r ∷ qs) ⊎ Each (Elsewhere k n) (r ∷ qs)
-        step true w (yes q) f = inl (record { it = r; listed = Memᴰ.head refl; own = (kind.met k n r w).0; then = q })
+        step true w (yes q) f = inl (record { it = r; listed = Memᴰ.head refl; own = (kind.met k n r w).0; moment = q })
         step true w (no q) f = inr (λ v e. q e, f)
         step false w d f = inr (λ v e. false-true (sym w ∙ v), f)
 

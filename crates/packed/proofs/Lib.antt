@@ -5,3 +5,7 @@ pub mod Times
 pub mod OnePass
 pub mod Fewest
 pub mod PackedLists
+pub mod SameSums
+pub mod PackedLog
+pub mod Packing
+pub mod PackedBuffer
