@@ -1,6 +1,6 @@
 -- Records that each set a value for their subject from their time on, as state records set a module's code and standards the theoretical time of a module and a
--- recipe. Of such a list, in which the times of each subject rise: a record repeats the value held just before where the records ahead of it give it, so that
--- dropping it changes no value at any time; and what is left depends on the values alone, so that two lists that give the same values have the same left.
+-- recipe. Of such a list, in which the times of each subject rise: a record repeats the value held just before it where the records ahead of it give that value, so
+-- that dropping it changes no value at any time.
 -- Assumes nothing.
 use mathlib.Core.Path.{◌≡◌, refl, sym, ap, ◌∙◌, subst}
 use mathlib.Core.Bool.{Bool, true, false, cond}
@@ -10,17 +10,14 @@ use mathlib.Core.List.Memᴰ
 use mathlib.Core.List.{List, [], ◌∷◌, ◌++◌, foldl, foldl-append, append_assoc, Memᴰ}
 use Prim.Native.Nat.{ℕ, zero, suc, ◌≤◌, ◌<◌}
 use native.Mathlib.Nat.{le_refl}
-use native.Mathlib.Decide.{dec_lt}
 use native.Mathlib.Omega.{arith}
 use borrow.Author.Tests.{eqb-true, eq-eqb}
 use Rattle.rules.specs.Lists.{Each, Ordered, Before, Rises}
 use Rattle.rules.proofs.Booleans.{false-true}
-use Rattle.rules.proofs.Each.{each-so, each-right, rising}
-use Rattle.rules.proofs.Sequence.{rising_same}
+use Rattle.rules.proofs.Each.{each-so, each-right}
 use Rattle.rules.proofs.Sound.{is-false}
-use Rattle.sound.proofs.Force.{each-member}
 use Rattle.packed.specs.Packed.{held_before, is_held, without}
-use Rattle.packed.proofs.Without.{without-member, member-without, ordered-without, without-more, without-same}
+use Rattle.packed.proofs.Without.{without-more, without-same}
 
 -- ---- tests, and values held
 
@@ -202,53 +199,7 @@ module _ {A K : Type 0} (kind : Setting A K) where
         repeats-current rs r [] h,
       )
 
-  -- ---- what is left depends on the values alone
-
-  -- a record of the list that gives subject k its value at time t, and gives it the same from its own time on
-  pub record Source (rs : List A) (k : K) (t v : ℕ) : Type 0 where
-    pub origin : A
-    pub listed : Memᴰ origin rs
-    pub own : subject origin ≡ k
-    pub begun : time origin ≤ t
-    pub gives : value origin ≡ v
-    pub since : (u : ℕ) → time origin ≤ u → u ≤ t → (found : Option ℕ) → foldl (put k u) found rs ≡ some v
-
-  source : (rs : List A) (k : K) (t v : ℕ) (found : Option ℕ) → foldl (put k t) found rs ≡ some v
-      → Source rs k t v ⊎ ((found ≡ some v) × ((u : ℕ) → u ≤ t → (other : Option ℕ) → foldl (put k u) other rs ≡ other))
-  source [] k t v found e = inr (e, λ u l other. refl)
-  source (r ∷ rs) k t v found e = elim (source rs k t v (put k t found r) e) [ inl w ↦ inl (behind w) | inr p ↦ here (meets k t r) refl p.0 p.1 ]
-    where
-      behind : Source rs k t v → Source (r ∷ rs) k t v
-      behind w =
-          record {
-            origin = w.origin;
-            listed = Memᴰ.tail w.listed;
-            own = w.own;
-            begun = w.begun;
-            gives = w.gives;
-            since = λ u l m found. w.since u l m (put k u found r);
-          }
-
-      here : (b : Bool) → meets k t r ≡ b → cond b (some (value r)) found ≡ some v → ((u : ℕ) → u ≤ t → (other : Option ℕ) → foldl (put k u) other rs ≡ other)
-          → Source (r ∷ rs) k t v ⊎ ((found ≡ some v) × ((u : ℕ) → u ≤ t → (other : Option ℕ) → foldl (put k u) other (r ∷ rs) ≡ other))
-      here true w q rest =
-          let p = kind.met k t r w in
-          inl (
-          record {
-            origin = r;
-            listed = Memᴰ.head refl;
-            own = p.0;
-            begun = p.1;
-            gives = cc;
-            since = λ u l m other. rest u m (put k u other r) ∙ rw (kind.meet k u r p.0 l) q;
-          }
-          )
-      here false w q rest =
-          inr (q, λ u l other. rest u l (put k u other r) ∙ idle k u other r (λ o. later u l o (dec_lt t (time r))))
-        where
-          later : (u : ℕ) → u ≤ t → subject r ≡ k → Dec (t < time r) → u < time r
-          later u l o (yes d) = omega arith
-          later u l o (no d) = absurd (false-true (sym w ∙ kind.meet k t r o (omega (arith, d))))
+  -- ---- lists that give the same values
 
   -- each record gives its subject its value at its time
   pub own-value : (rs : List A) (found : Option ℕ) {a : A} → Ascends rs → Memᴰ a rs → foldl (put (subject a) (time a)) found rs ≡ some (value a)
@@ -265,47 +216,5 @@ module _ {A K : Type 0} (kind : Setting A K) where
   abbrev pub SameFor : ℕ → List A → List A → A → Type 0
   SameFor period rs qs r = (t : ℕ) → t < period → value_at rs (subject r) t ≡ value_at qs (subject r) t
 
-  repeats-alike : (period : ℕ) (rs qs : List A) (r : A) → time r < period → SameFor period rs qs r → repeats rs r ≡ repeats qs r
+  pub repeats-alike : (period : ℕ) (rs qs : List A) (r : A) → time r < period → SameFor period rs qs r → repeats rs r ≡ repeats qs r
   repeats-alike period rs qs r l h = ap (λ (o : Option ℕ). is_held o (value r)) (same-before period (time r) (value_at rs (subject r)) (value_at qs (subject r)) l h)
-
-  -- a value that was not held just before was set by a record at that time
-  at-once : (qs : List A) (k : K) (n v : ℕ) → (w : Source qs k n v) → is_held (held_before (value_at qs k) n) v ≡ false → time (w.origin) ≡ n
-  at-once qs k zero v w e = omega (arith, w.begun)
-  at-once qs k (suc n) v w e = go (dec_lt (time (w.origin)) (suc n))
-    where
-      go : Dec (time (w.origin) < suc n) → time (w.origin) ≡ suc n
-      go (yes d) = absurd (false-true (sym e ∙ some-held (value_at qs k n) v (w.since n (omega arith) (omega arith) none)))
-      go (no d) = omega (arith, w.begun)
-
-  -- of good records, which begin below the period, two that are alike in subject, time and value are one
-  module _ (period : ℕ) (Good : A → Type 0) (early : (r : A) → Good r → time r < period)
-      (alike : (q r : A) → Good q → Good r → subject q ≡ subject r → time q ≡ time r → value q ≡ value r → q ≡ r) where
-    -- a record that repeats nothing is in every list that gives the same values
-    new-in-both : (rs qs : List A) (r : A) → Ascends rs → Each Good qs → Good r → Memᴰ r rs → SameFor period rs qs r → repeats rs r ≡ false → Memᴰ r qs
-    new-in-both rs qs r asc good g m same e =
-        let l = early r g in
-        let v : value_at qs (subject r) (time r) ≡ some (value r) = sym (same (time r) l) ∙ own-value rs none asc m in
-        elim (source qs (subject r) (time r) (value r) none v) [
-          | inl w ↦
-              let t = at-once qs (subject r) (time r) (value r) w (sym (repeats-alike period rs qs r l same) ∙ e) in
-              let q : w.origin ≡ r = alike (w.origin) r (each-member Good (w.listed) good) g (w.own) t (w.gives) in
-              rw q at (w.listed)
-          | inr x ↦ let z : ◌≡◌ {A = ℕ} 0 1 = cc (x.0) in absurd (omega arith)
-        ]
-
-    left-in-both : (rs qs : List A) → Ascends rs → Each Good rs → Each Good qs → ((r : A) → Good r → SameFor period rs qs r) → (a : A) → Memᴰ a (without (repeats rs) rs) → Memᴰ a (without (repeats qs) qs)
-    left-in-both rs qs asc good other same a m =
-        let p = without-member (repeats rs) rs m in
-        let g = each-member Good p.0 good in
-        let s = same a g in
-        member-without (repeats qs) qs (new-in-both rs qs a asc other g p.0 s p.1) (sym (repeats-alike period rs qs a (early a g) s) ∙ p.1)
-
-    -- rising lists that give the same values have the same left
-    pub same-left : (rs qs : List A) → Rises (kind.key) rs → Rises (kind.key) qs → Each Good rs → Each Good qs → ((r : A) → Good r → SameFor period rs qs r)
-        → without (repeats rs) rs ≡ without (repeats qs) qs
-    same-left rs qs u v x y same =
-        rising_same (kind.key) (without (repeats rs) rs) (without (repeats qs) qs)
-        (rising (kind.key) _ (ordered-without (repeats rs) (Before (kind.key)) rs u))
-        (rising (kind.key) _ (ordered-without (repeats qs) (Before (kind.key)) qs v))
-        (left-in-both rs qs (ascends rs u) x y same)
-        (left-in-both qs rs (ascends qs v) y x (λ r g t l. sym (same r g t l)))

@@ -1,5 +1,5 @@
--- No list, rising or not, that gives the same values has fewer records than are left: wherever a subject's value changes, a list has a record of that subject at
--- that time, and the records that are left are one for each such change.
+-- Wherever a subject's value changes, a list that gives it has a record of that subject at that time, and the records that are left are one for each such change. So no
+-- list, rising or not, that gives the same values has fewer records, and a rising one has the same left.
 -- Assumes nothing.
 use mathlib.Core.Path.{◌≡◌, refl, sym, ap, ◌∙◌}
 use mathlib.Core.Bool.{Bool, true, false, cond}
@@ -11,14 +11,15 @@ use Prim.Native.Nat.{ℕ, zero, suc, ◌≤◌, ◌<◌}
 use native.Mathlib.Decide.{ℕ_discrete}
 use native.Mathlib.Omega.{arith}
 use lib.ListN.{length}
-use Rattle.rules.specs.Lists.{Each, Rises}
+use Rattle.rules.specs.Lists.{Each, Before, Rises}
 use Rattle.rules.proofs.Booleans.{false-true}
-use Rattle.rules.proofs.Each.{each-so, each-both}
+use Rattle.rules.proofs.Each.{each-so, each-both, rising}
+use Rattle.rules.proofs.Sequence.{rising_same}
 use Rattle.rules.proofs.Sound.{is-false}
 use Rattle.sound.proofs.Force.{each-member, members-each}
 use Rattle.packed.specs.Packed.{held_before, is_held, without}
-use Rattle.packed.proofs.Changes.{Setting, same-truth, some-held, same-before, value_at, repeats, Later, Ascends, ascends, own-value}
-use Rattle.packed.proofs.Without.{without-member, ordered-without}
+use Rattle.packed.proofs.Changes.{Setting, same-truth, some-held, same-before, value_at, repeats, Later, Ascends, ascends, own-value, SameFor, repeats-alike}
+use Rattle.packed.proofs.Without.{without-member, member-without, ordered-without}
 
 -- ---- a list less one of its records
 
@@ -135,14 +136,53 @@ module _ {A K : Type 0} (kind : Setting A K) where
             below a g l (yes q) = absurd (g q)
             below a g l (no q) = omega (arith, q)
 
-    module _ (period : ℕ) (Good : A → Type 0) (early : (r : A) → Good r → kind.time r < period) where
-      pub fewest : (rs qs : List A) → Rises (kind.key) rs → Each Good rs → ((r : A) → Good r → (t : ℕ) → t < period → says qs (kind.subject r) t ≡ value_at kind rs (kind.subject r) t)
-          → length (without (repeats kind rs) rs) ≤ length qs
-      fewest rs qs up good same =
-          let asc = ascends kind rs up in
-          no-more (without (repeats kind rs) rs) qs (ordered-without (repeats kind rs) (Later kind) rs asc) (members-each (Matched qs) (without (repeats kind rs) rs) (λ a m.
+  pub value-depends : Depends (value_at kind)
+  value-depends =
+      record {
+        same = λ rs k t u e. passed-same (λ found r. some (kind.value r)) (kind.meets k t) (kind.meets k u) none rs e;
+        empty = λ rs k t e. passed-none (λ found r. some (kind.value r)) (kind.meets k t) none rs e;
+      }
+
+  -- ---- lists that give the same values
+
+  -- good records begin below the period
+  module _ (period : ℕ) (Good : A → Type 0) (early : (r : A) → Good r → kind.time r < period) where
+    pub fewest : (says : List A → K → ℕ → Option ℕ) → Depends says → (rs qs : List A) → Rises (kind.key) rs → Each Good rs
+        → ((r : A) → Good r → (t : ℕ) → t < period → says qs (kind.subject r) t ≡ value_at kind rs (kind.subject r) t) → length (without (repeats kind rs) rs) ≤ length qs
+    fewest says depends rs qs up good same =
+        let asc = ascends kind rs up in
+        no-more (without (repeats kind rs) rs) qs (ordered-without (repeats kind rs) (Later kind) rs asc) (members-each (Matched qs) (without (repeats kind rs) rs) (λ a m.
+        let p = without-member (repeats kind rs) rs m in
+        let g = each-member Good p.0 good in
+        let l = early a g in
+        changed says depends qs (kind.subject a) (kind.time a) (kind.value a) (same a g (kind.time a) l ∙ own-value kind rs none asc p.0)
+        (ap (λ (o : Option ℕ). is_held o (kind.value a)) (same-before period (kind.time a) (says qs (kind.subject a)) (value_at kind rs (kind.subject a)) l (same a g)) ∙ p.1)))
+
+    module _ (alike : (q r : A) → Good q → Good r → kind.subject q ≡ kind.subject r → kind.time q ≡ kind.time r → kind.value q ≡ kind.value r → q ≡ r) where
+      -- a record that repeats nothing is in each rising list that gives the same values
+      new-in-both : (rs qs : List A) (r : A) → Ascends kind rs → Ascends kind qs → Each Good qs → Good r → Memᴰ r rs → SameFor kind period rs qs r → repeats kind rs r ≡ false → Memᴰ r qs
+      new-in-both rs qs r up uq good g m same e =
+          let l = early r g in
+          let v : value_at kind qs (kind.subject r) (kind.time r) ≡ some (kind.value r) = sym (same (kind.time r) l) ∙ own-value kind rs none up m in
+          let w = changed (value_at kind) value-depends qs (kind.subject r) (kind.time r) (kind.value r) v (sym (repeats-alike kind period rs qs r l same) ∙ e) in
+          let u : value_at kind qs (kind.subject r) (kind.time r) ≡ some (kind.value w.it) = rw (w.own, w.moment) at (own-value kind qs none uq w.listed) in
+          let z : some (kind.value w.it) ≡ some (kind.value r) = sym u ∙ v in
+          let q : w.it ≡ r = alike w.it r (each-member Good w.listed good) g w.own w.moment cc in
+          rw q at w.listed
+
+      left-in-both : (rs qs : List A) → Ascends kind rs → Ascends kind qs → Each Good rs → Each Good qs → ((r : A) → Good r → SameFor kind period rs qs r)
+          → (a : A) → Memᴰ a (without (repeats kind rs) rs) → Memᴰ a (without (repeats kind qs) qs)
+      left-in-both rs qs up uq good other same a m =
           let p = without-member (repeats kind rs) rs m in
           let g = each-member Good p.0 good in
-          let l = early a g in
-          changed qs (kind.subject a) (kind.time a) (kind.value a) (same a g (kind.time a) l ∙ own-value kind rs none asc p.0)
-          (ap (λ (o : Option ℕ). is_held o (kind.value a)) (same-before period (kind.time a) (says qs (kind.subject a)) (value_at kind rs (kind.subject a)) l (same a g)) ∙ p.1)))
+          let s = same a g in
+          member-without (repeats kind qs) qs (new-in-both rs qs a up uq other g p.0 s p.1) (sym (repeats-alike kind period rs qs a (early a g) s) ∙ p.1)
+
+      pub same-left : (rs qs : List A) → Rises (kind.key) rs → Rises (kind.key) qs → Each Good rs → Each Good qs → ((r : A) → Good r → SameFor kind period rs qs r)
+          → without (repeats kind rs) rs ≡ without (repeats kind qs) qs
+      same-left rs qs up uq good other same =
+          rising_same (kind.key) (without (repeats kind rs) rs) (without (repeats kind qs) qs)
+          (rising (kind.key) _ (ordered-without (repeats kind rs) (Before (kind.key)) rs up))
+          (rising (kind.key) _ (ordered-without (repeats kind qs) (Before (kind.key)) qs uq))
+          (left-in-both rs qs (ascends kind rs up) (ascends kind qs uq) good other same)
+          (left-in-both qs rs (ascends kind qs uq) (ascends kind rs up) other good (λ r g t l. sym (same r g t l)))

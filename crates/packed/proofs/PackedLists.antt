@@ -1,7 +1,7 @@
 -- The packed state records and standards: they rise, say what the lists say, and are the one shortest way to say it.
 -- Assumes nothing.
 use mathlib.Core.Path.{◌≡◌, sym, ap, ◌∙◌}
-use mathlib.Core.Option.{Option, none, some}
+use mathlib.Core.Option.{Option, none}
 use mathlib.Core.List.{List, [], ◌∷◌}
 use Prim.Native.Nat.{ℕ, suc, ◌≤◌, ◌<◌}
 use lib.ListN.{length}
@@ -14,9 +14,9 @@ use Rattle.rules.specs.Theoretical.{placed_from, later, has_begun, in_force}
 use Rattle.rules.specs.Time.{code_at}
 use Rattle.rules.proofs.Each.{rising}
 use Rattle.packed.specs.Packed.{theoretical_of, time_in_force, repeats_code, repeats_time, packed_states, packed_standards}
-use Rattle.packed.proofs.Changes.{ascends, value-kept, same-left}
+use Rattle.packed.proofs.Changes.{ascends, value-kept}
 use Rattle.packed.proofs.Codes.{codes}
-use Rattle.packed.proofs.Fewest.{passed-same, passed-none, Depends, fewest}
+use Rattle.packed.proofs.Fewest.{passed-same, passed-none, Depends, value-depends, fewest, same-left}
 use Rattle.packed.proofs.Times.{times, last-time, standards-left}
 use Rattle.packed.proofs.Without.{ordered-without}
 
@@ -30,20 +30,12 @@ pub codes_kept : (rs : List StateRecord) → Rises state_key rs → (m t : ℕ) 
 unfolding code_at packed_states repeats_code
 codes_kept rs e m t = value-kept codes rs (ascends codes rs e) m t
 
-code-depends : Depends codes code_at
-unfolding code_at
-code-depends =
-    record {
-      same = λ rs m t u e. passed-same (λ found r. some r.code) (codes.meets m t) (codes.meets m u) none rs e;
-      empty = λ rs m t e. passed-none (λ found r. some r.code) (codes.meets m t) none rs e;
-    }
-
 module _ (period modules : ℕ) (rs qs : List StateRecord) (up : Rises state_key rs) (good : Each (StateSound period modules) rs)
     (same : (m t : ℕ) → m < modules → t < period → code_at rs m t ≡ code_at qs m t) where
   -- no list that gives the same codes has fewer records
   pub fewest_states : length (packed_states rs) ≤ length qs
   unfolding code_at packed_states repeats_code
-  fewest_states = fewest codes code_at code-depends period (StateSound period modules) (λ r g. g.inside) rs qs up good (λ r g t l. sym (same r.«module» t g.own l))
+  fewest_states = fewest codes period (StateSound period modules) (λ r g. g.inside) code_at (value-depends codes) rs qs up good (λ r g t l. sym (same r.«module» t g.own l))
 
   -- and a rising one is packed to the same
   pub one_states : Rises state_key qs → Each (StateSound period modules) qs → packed_states rs ≡ packed_states qs
@@ -88,7 +80,7 @@ module _ (period modules : ℕ) (ss ts : List Standard) (up : Rises standard_key
   pub fewest_standards : length (packed_standards ss) ≤ length ts
   fewest_standards =
       rw (standards-left ss (rising standard_key ss up))
-      (fewest times in-force time-depends period (StandardSound period modules) (λ s g. g.inside) ss ts up good
+      (fewest times period (StandardSound period modules) (λ s g. g.inside) in-force time-depends ss ts up good
       (λ s g t l. sym (same s.«module» s.recipe t g.own l) ∙ last-time s.«module» s.recipe t ss (rising standard_key ss up)))
 
   -- and a rising one is packed to the same
