@@ -7,9 +7,7 @@ mod standards;
 
 ghost use Rattle.std.specs.Prelude.{◌≡◌, ◌+◌, ◌*◌, ◌≤◌, length, take, drop, MatchResult};
 ghost use Rattle.std.specs.declared.result.Result.TheVariants.{Ok, Err};
-ghost use Rattle.bits.specs.Put.{Fit};
 ghost use Rattle.filling.specs.Buffer.{Put};
-ghost use Rattle.records.specs.Encode.{header_slots, header_bytes};
 ghost use Rattle.records.specs.Log.{decode};
 ghost use Rattle.records.specs.Whole.{units_begin};
 ghost use Rattle.rules.specs.Answers.{answer_of};
@@ -55,19 +53,6 @@ fn judge_second(log: &[u8]) -> Result<Account<'_>, Refusal>
     }
 }
 
-// The header's ten bytes.
-fn put_header(buf: &mut [u8], h: Header) -> usize
-    requires fits { Fit (header_slots h) }
-    requires room { 10 ≤ length buf.old }
-    ensures put { Put (header_bytes h) buf.old 0 result buf.new }
-    ensures place { result ≡ 10 }
-{
-    let first = (h.period * 0x80 + h.modules as u64) * 0x4000 + h.states as u64;
-    let second = h.standards as u64 * 0x2000 + h.units as u64;
-    let middle = filling::put_number(buf, 0, 7, first);
-    filling::put_number(buf, middle, 3, second)
-}
-
 // A log's state records, as they stand.
 fn copy_states(buf: &mut [u8], at: usize, log: WholeLog) -> usize
     requires { at + 6 * log.header.states ≤ length buf.old }
@@ -97,7 +82,7 @@ fn put_log(buf: &mut [u8], a: WholeLog, b: WholeLog, h: Header) -> usize
     ensures { Put (joined_bytes a.entry.bytes.now b.entry.bytes.now) buf.old 0 result buf.new }
 {
     let by = a.header.period;
-    let first_states = put_header(buf, h);
+    let first_states = writing::lay_header(buf, h);
     let second_states = copy_states(buf, first_states, a);
     let standards = moved::put_states(buf, second_states, b.states(), by);
     let first_units = standards::put_standards(buf, standards, a.standards(), b.standards(), by);

@@ -3,10 +3,14 @@
 // field is refused, and a record read has none.
 #![tactic(auto)]
 
-ghost use Rattle.std.specs.Prelude.{◌≡◌, ◌+◌, ◌*◌, ◌≤◌, ◌<◌};
+ghost use Rattle.std.specs.Prelude.{◌≡◌, ◌+◌, ◌*◌, ◌≤◌, ◌<◌, length};
+ghost use Rattle.bits.specs.Put.{Fit};
+ghost use Rattle.filling.specs.Buffer.{Put};
+ghost use Rattle.records.specs.Encode.{header_slots, header_bytes};
 ghost use Rattle.writing.specs.Writing.{header_entry, state_entry, standard_entry, unit_entry, Added, Finished};
 ghost use Rattle.writing.specs.Storing.{bits_of, slots_of};
 
+use records::Header;
 use rules::{Ground, LogList, Refusal};
 
 // A field of a record: a value, and the bits that it has.
@@ -69,6 +73,19 @@ pub fn put_header(
         wide(13, units),
     ];
     put(buf, at, LogList::NoList, 8, 2, &fields)
+}
+
+// The ten bytes of a header whose numbers fit their fields, for the calls that make a log of others.
+pub fn lay_header(buf: &mut [u8], h: Header) -> usize
+    requires fits { Fit (header_slots h) }
+    requires room { 10 ≤ length buf.old }
+    ensures put { Put (header_bytes h) buf.old 0 result buf.new }
+    ensures place { result ≡ 10 }
+{
+    let first = (h.period * 0x80 + h.modules as u64) * 0x4000 + h.states as u64;
+    let second = h.standards as u64 * 0x2000 + h.units as u64;
+    let middle = filling::put_number(buf, 0, 7, first);
+    filling::put_number(buf, middle, 3, second)
 }
 
 // Adds a state record.

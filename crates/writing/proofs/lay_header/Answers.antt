@@ -1,4 +1,4 @@
--- `joining::put_header` meets its contract: the five fields side by side are seven bytes and three. Assumes nothing.
+-- `writing::lay_header` meets its contract: the five fields side by side are seven bytes and three. Assumes nothing.
 use mathlib.Core.Path.{refl, sym}
 use Prim.Native.Nat.{◌+◌, ◌*◌}
 use native.Mathlib.Omega.{arith}
@@ -6,7 +6,7 @@ use Rattle.filling.proofs.Numbers.{number-length}
 use Rattle.filling.proofs.Written.{then, read_as}
 use Rattle.records.specs.Encode.{header_slots}
 use Rattle.writing.proofs.Bytes.{record-bytes}
-use Rattle.joining.proofs.put_header.Goals as goal
+use Rattle.writing.proofs.lay_header.Goals as goal
 
 pub put_number-requires : goal.put_number-requires
 put_number-requires c = let next = rw number-length at c.put_number-middle.ensures.next in (omega (arith, next), omega arith)
