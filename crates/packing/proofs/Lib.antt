@@ -1,0 +1,3 @@
+pub mod ClosingUp
+pub mod Passing
+pub mod Finishing
