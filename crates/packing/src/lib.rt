@@ -2,6 +2,7 @@
 #![tactic(auto)]
 
 mod closing;
+mod lines;
 mod passes;
 
 ghost use Rattle.std.specs.Prelude.{◌≡◌, ◌++◌, ◌-◌, ◌≤◌, length, take, replicate};
@@ -12,6 +13,7 @@ ghost use Rattle.rules.specs.Verdict.{verdict};
 ghost use Rattle.packed.specs.Packed.{packed_bytes};
 ghost use Rattle.packed.specs.Packs.{Packs};
 
+pub use crate::lines::print_packing;
 use records::Header;
 use rules::Refusal;
 
