@@ -81,17 +81,21 @@ pub fn replace(files: &impl Files, path: &[u8], bytes: &[u8]) -> Result<(), Repl
     or_removed(files, new, fs::rename(files, new, path)).map_err(ReplaceError::NotRenamed)
 }
 
-// Replaces a file, and says on standard error why it could not: of the new file, or of the one that the path names.
-pub fn save(files: &impl Files, err: &impl Print, path: &[u8], bytes: &[u8])
+// Replaces a file, and answers whether it could. Where not, it says why on standard error: of the new file, or of the one that the path names.
+pub fn save(files: &impl Files, err: &impl Print, path: &[u8], bytes: &[u8]) -> bool
     requires { length path.now ≤ 4096 }
 {
     match replace(files, path, bytes) {
-        Ok(()) => {}
+        Ok(()) => true,
         Err(ReplaceError::NotWritten(why)) => {
             let mut name = [0u8; 4200];
             let n = put_name(path, &mut name).min(4096);
             saying::fail(err, &name[..n], &why);
+            false
         }
-        Err(ReplaceError::NotRenamed(why)) => saying::fail(err, path, &why),
+        Err(ReplaceError::NotRenamed(why)) => {
+            saying::fail(err, path, &why);
+            false
+        }
     }
 }

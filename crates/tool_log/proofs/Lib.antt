@@ -1,2 +1,3 @@
 pub mod DemandThree
 pub mod Enough
+pub mod PackedTold

@@ -32,5 +32,8 @@ pub use printing::{Table, print_table, print_words};
 // One log of two consecutive ones.
 pub use joining::join_logs;
 
+// A log without the records that say nothing new, and what packing it did, in lines.
+pub use packing::{pack_log, print_packing};
+
 // A log written record by record, and the test of what was written.
 pub use writing::{finish_log, put_header, put_standard, put_state, put_unit};

@@ -22,9 +22,10 @@ use Rattle.rules.proofs.Given.{own_verdict}
 use Rattle.writing.specs.Writing.{Entry, Added}
 use Rattle.crediting.specs.declared.InForce.{InForce}
 use Rattle.crediting.specs.Calls.{in_force_of, StandardInForce}
+use Rattle.packed.specs.Packs.{Packs}
 use Rattle.telling.specs.Arrays.{refusal_of, ratios_of, bases_of}
 use Rattle.telling.specs.Told.{answer_or, found_flag, found_or, Told}
-use Rattle.tool_log_c.specs.Calls.{Promised, Tells, TellsNumbers, TellsDoubles, TellsAdding, TellsFront, TellsInForce}
+use Rattle.tool_log_c.specs.Calls.{Promised, Tells, TellsNumbers, TellsDoubles, TellsAdding, TellsFront, TellsPack, TellsInForce}
 
 -- ---- every kind of answer
 
@@ -79,6 +80,11 @@ module _ {flag : ℕ} {refusal : List ℕ} where
       → MatchResult r (λ n. length ≡ n ∷ []) (λ x. length ≡ lengthBefore) → TellsFront v content Promise Allowed before lengthBefore flag after length refusal
   front_told w lengthBefore length t m = record { told = numbers_told w.given (λ n. n ∷ []) lengthBefore length t m; bytes = w.bytes }
 
+  -- what is left in a buffer
+  pub pack_told : {before after : List ℕ} {r : Result ℕ Refusal} → Packs before r after → (lengthBefore length : List ℕ) → Told (verdict_of r) flag refusal
+      → MatchResult r (λ n. length ≡ n ∷ []) (λ x. length ≡ lengthBefore) → TellsPack before lengthBefore flag after length refusal
+  pack_told p lengthBefore length t m = record { told = numbers_told p.given (λ n. n ∷ []) lengthBefore length t m; bytes = p.bytes }
+
 -- what is found
 pub found_told : {s : List ℕ} {m recipe time : ℕ} {r : Result (Option InForce) Refusal} → StandardInForce s m recipe time r → (flag : ℕ) (before after refusal : List ℕ)
     → MatchResult r (λ o. MatchOption o (flag ≡ 2) (λ f. flag ≡ 1)) (λ x. flag ≡ 0) → refusal ≡ refusal_of (verdict_of r)
@@ -103,4 +109,4 @@ found_told {s} {m} {recipe} {time} g flag before after refusal q why e =
     held (Err x) o p = p
 
 -- for the check to try
-pub ruleset handing = (told_as, numbers_told, doubles_told, adding_told, front_told, found_told)
+pub ruleset handing = (told_as, numbers_told, doubles_told, adding_told, front_told, pack_told, found_told)

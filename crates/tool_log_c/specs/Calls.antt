@@ -21,6 +21,8 @@ use Rattle.reporting.specs.Reports.{verdict_for_text, verdict_for, ForText, ForR
 use Rattle.crediting.specs.Calls.{AllCredited, in_force_of, Uses}
 use Rattle.listing.specs.Listings.{credit_listing}
 use Rattle.joined.specs.Joins.{join_verdict, joined_bytes, OfJoin, Joined}
+use Rattle.packed.specs.Packed.{packed_bytes}
+use Rattle.packed.specs.Packs.{packed_buffer, OfPacking}
 use Rattle.benchmarks.specs.Benchmarks.{benchmark_at, verdict_with}
 use Rattle.supplemental.specs.Supplemental.{supplemental_of, supplementals_of, AllRounded}
 use Rattle.supplemental.specs.Calls.{WithBenchmarks}
@@ -96,7 +98,7 @@ TellsSupplemental s b before r after refusal =
     let f = supplemental_of (decode s) (benchmark_at b) in
     TellsNumbers (verdict_with s b) (supplementals_of f) before (AllRounded (decode s) (benchmark_at b) f) (WithBenchmarks s b) r after refusal
 
--- ---- what is written to the front of a buffer, or what is found
+-- ---- what is written to a buffer, or what is found
 
 -- the length of what is written to the front of the buffer, and all of the buffer's bytes
 pub record TellsFront (v : Verdict) (content : List ℕ) (Promise : ℕ → Type 0) (Allowed : Refusal → Type 0) (before lengthBefore : List ℕ) (r : ℕ) (after told_length refusal : List ℕ) : Type 0 where
@@ -113,6 +115,11 @@ TellsCreditedListing s before lengthBefore r after told_length refusal =
 abbrev pub TellsJoin : List ℕ → List ℕ → List ℕ → List ℕ → ℕ → List ℕ → List ℕ → List ℕ → Type 0
 TellsJoin s t before lengthBefore r after told_length refusal =
     TellsFront (join_verdict s t (length before)) (joined_bytes s t) (λ n. (n ≤ length before) × Joined s t) (OfJoin s t (length before)) before lengthBefore r after told_length refusal
+
+-- the packed log's length, and all of the buffer's bytes
+pub record TellsPack (before lengthBefore : List ℕ) (r : ℕ) (after told_length refusal : List ℕ) : Type 0 where
+  pub told : TellsNumbers (verdict before) (length (packed_bytes before) ∷ []) lengthBefore (OfPacking before (length (packed_bytes before))) (OfLog before) r told_length refusal
+  pub bytes : after ≡ packed_buffer before
 
 -- index and time of the standard in force for a module, a recipe and a time
 pub record TellsInForce (s : List ℕ) (m recipe time : ℕ) (before : List ℕ) (r : ℕ) (after refusal : List ℕ) : Type 0 where

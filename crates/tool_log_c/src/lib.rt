@@ -3,7 +3,7 @@
 #![tactic(auto, using(crate::proofs::Handing::handing))]
 
 ghost use Rattle.reporting.specs.Reports.{Written};
-ghost use Rattle.tool_log_c.specs.Calls.{TellsVerdict, TellsModuleTimes, TellsToolTimes, TellsModuleQuantities, TellsToolQuantities, TellsModuleFigures, TellsToolFigures, TellsModuleLosses, TellsToolLosses, TellsCreditedUnits, TellsCreditedListing, TellsJoin, TellsInForce, TellsSupplemental, TellsAdding, TellsFinishing};
+ghost use Rattle.tool_log_c.specs.Calls.{TellsVerdict, TellsModuleTimes, TellsToolTimes, TellsModuleQuantities, TellsToolQuantities, TellsModuleFigures, TellsToolFigures, TellsModuleLosses, TellsToolLosses, TellsCreditedUnits, TellsCreditedListing, TellsJoin, TellsPack, TellsInForce, TellsSupplemental, TellsAdding, TellsFinishing};
 ghost use Rattle.writing.specs.Writing.{header_entry, state_entry, standard_entry, unit_entry};
 
 // ---- the verdict and the report
@@ -185,6 +185,16 @@ pub extern "C" fn tl_join(
     ensures { TellsJoin first.now second.now buf.old length.old result buf.new length.new refusal.new }
 {
     telling::tell_position(tool_log::join_logs(first, second, buf), length, refusal)
+}
+
+// ---- a log packed
+
+// Packs the log that fills the buffer.
+#[unsafe(no_mangle)]
+pub extern "C" fn tl_pack(buf: &mut [u8], length: &mut [u64; 1], refusal: &mut [u64; 3]) -> u32
+    ensures { TellsPack buf.old length.old result buf.new length.new refusal.new }
+{
+    telling::tell_position(tool_log::pack_log(buf), length, refusal)
 }
 
 // ---- supplemental figures
