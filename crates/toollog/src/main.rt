@@ -1,9 +1,9 @@
-// One command for a log: its report, its state times, its quantities, its losses, the units credited to each standard, its supplemental figures, one log of two, and
-// what a refusal means.
+// One command for a log: its report, its state times, its quantities, its losses, the units credited to each standard, its supplemental figures, one log of two, a log
+// packed, and what a refusal means.
 // That a name is at most 4,096 bytes stands in six contracts: see `saying`.
 #![tactic(auto)]
 
-ghost use Rattle.std.specs.Prelude.{ℕ, ◌≤◌, length};
+ghost use Rattle.std.specs.Prelude.{ℕ, ◌≤◌, length, IfSome};
 
 use reading::{ENAMETOOLONG, Named};
 use std::env::FillError;
@@ -21,12 +21,13 @@ toollog losses [LOG]                  what total time went to: availability, ope
 toollog credited [LOG]                the actual units credited to each standard: its index and its units, a line for each\n\
 toollog supplemental LOG BENCHMARKS   the four supplemental figures of the tool: reference, optimized, value-added, total effective units\n\
 toollog join FIRST SECOND RESULT      one log of two consecutive ones, into the file RESULT\n\
+toollog pack LOG RESULT               the log without records that say nothing new, into the file RESULT\n\
 toollog explain N                     what refusal N means, and what to look for\n\
 toollog help                          this text\n\
 \n\
 LOG is the name of a file. Left out, or -, it is standard input.\n\
 BENCHMARKS is the name of a file with 14 bytes for each standard of the log; - is standard input.\n\
-FIRST and SECOND are the names of files with logs; - is standard input. RESULT is the name of a file, which a refusal leaves as it was.\n\
+FIRST and SECOND are the names of files with logs; - is standard input. RESULT is the name of a file, which a refusal leaves as it was. It may be LOG.\n\
 A refused log prints 'refused N list L at P', and why in words on standard error.\n",
     );
 }
@@ -169,15 +170,44 @@ fn supplemental(rt: HostRuntime) {
     }
 }
 
+// ---- logs made of logs
+
+fn put_refusal(rt: HostRuntime, x: Refusal) {
+    let mut space = [0u8; 80];
+    let size = report::put_refused_line(&mut space, x);
+    put_out(rt, &space[..size]);
+}
+
+// Whether argument i is `-`, or nothing.
+fn names_no_file(rt: HostRuntime, i: usize) -> bool {
+    let mut text = [0u8; 1];
+    is_input(rt, i) || matches!(rt.arg(i, &mut text), Ok(0))
+}
+
+// The name of a result. Where it is too long, it says so.
+fn read_path<'a>(rt: HostRuntime, i: usize, path: &'a mut [u8; 4096]) -> Option<&'a [u8]>
+    ensures { IfSome result (λ p. length p.now ≤ 4096) }
+{
+    match rt.arg(i, path) {
+        Ok(n) => Some(&path[..n]),
+        Err(_) => {
+            saying::fail(
+                &rt.stderr(),
+                path,
+                &io::Error::from_raw_os_error(ENAMETOOLONG),
+            );
+            None
+        }
+    }
+}
+
 // ---- one log of two
 
 // Prints why a join is refused. In words: of the first log or of the second, where that one is, and else of the log that they would make.
 fn refuse(rt: HostRuntime, first: Named, second: Named, path: &[u8], x: Refusal)
     requires { length path.now ≤ 4096 }
 {
-    let mut space = [0u8; 80];
-    let size = report::put_refused_line(&mut space, x);
-    put_out(rt, &space[..size]);
+    put_refusal(rt, x);
     if !print_words(rt, first) && !print_words(rt, second) {
         complains(rt, path, |space| tool_log::words_of(x, space));
     }
@@ -189,27 +219,18 @@ fn join_into(rt: HostRuntime, first: Named, second: Named, path: &[u8])
 {
     let mut space = [0u8; 63130];
     match tool_log::join_logs(first.bytes, second.bytes, &mut space) {
-        Ok(size) => saving::save(&rt, &rt.stderr(), path, &space[..size]),
+        Ok(size) => {
+            saving::save(&rt, &rt.stderr(), path, &space[..size]);
+        }
         Err(x) => refuse(rt, first, second, path, x),
     }
 }
 
 fn join_named(rt: HostRuntime, first: Named, second: Named) {
     let mut path = [0u8; 4096];
-    match rt.arg(4, &mut path) {
-        Ok(n) => join_into(rt, first, second, &path[..n]),
-        Err(_) => saying::fail(
-            &rt.stderr(),
-            &path,
-            &io::Error::from_raw_os_error(ENAMETOOLONG),
-        ),
+    if let Some(path) = read_path(rt, 4, &mut path) {
+        join_into(rt, first, second, path);
     }
-}
-
-// Whether argument i is `-`, or nothing.
-fn names_no_file(rt: HostRuntime, i: usize) -> bool {
-    let mut text = [0u8; 1];
-    is_input(rt, i) || matches!(rt.arg(i, &mut text), Ok(0))
 }
 
 fn read_two(rt: HostRuntime) {
@@ -237,6 +258,61 @@ fn join(rt: HostRuntime) {
         complain(rt, b"join", b"RESULT has to be the name of a file\n");
     } else {
         read_two(rt);
+    }
+}
+
+// ---- a log packed
+
+// Saves the packed log, and prints what packing did.
+fn save_packed(rt: HostRuntime, log: &[u8], packed: &[u8], path: &[u8])
+    requires { length path.now ≤ 4096 }
+{
+    if saving::save(&rt, &rt.stderr(), path, packed) {
+        let mut space = [0u8; 144];
+        let size = tool_log::print_packing(log, packed, &mut space);
+        put_out(rt, &space[..size]);
+    }
+}
+
+// The log is packed in a copy of its own length, since its lengths before and after are printed.
+fn pack_into(rt: HostRuntime, log: Named, path: &[u8])
+    requires short { length path.now ≤ 4096 }
+    requires within { length log.bytes.now ≤ 63131 }
+{
+    let mut space = [0u8; 63131];
+    let copy = &mut space[..log.bytes.len()];
+    copy.copy_from_slice(log.bytes);
+    match tool_log::pack_log(copy) {
+        Ok(size) => save_packed(rt, log.bytes, &copy[..size], path),
+        Err(x) => {
+            put_refusal(rt, x);
+            print_words(rt, log);
+        }
+    }
+}
+
+fn read_one(rt: HostRuntime) {
+    let mut name = [0u8; 4096];
+    let mut input = [0u8; 63131];
+    let Some(log) = reading::read_log(&rt, &rt.stderr(), 2, &mut name, &mut input) else {
+        return;
+    };
+    let mut path = [0u8; 4096];
+    if let Some(path) = read_path(rt, 3, &mut path) {
+        pack_into(rt, log, path);
+    }
+}
+
+fn pack(rt: HostRuntime) {
+    if has_too_many(rt, 4) {
+        return;
+    }
+    if !has_argument(rt, 3) {
+        complain(rt, b"pack", b"LOG and RESULT are needed\n");
+    } else if names_no_file(rt, 3) {
+        complain(rt, b"pack", b"RESULT has to be the name of a file\n");
+    } else {
+        read_one(rt);
     }
 }
 
@@ -286,6 +362,7 @@ fn run(rt: HostRuntime, word: &[u8]) {
         b"credited" => answer(rt, |log| print_credited(rt, log)),
         b"supplemental" => supplemental(rt),
         b"join" => join(rt),
+        b"pack" => pack(rt),
         b"explain" => explain(rt),
         b"help" => {
             if !has_too_many(rt, 2) {
