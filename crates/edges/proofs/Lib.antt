@@ -7,3 +7,4 @@ pub mod ModuleCases
 pub mod BarsByHand
 pub mod RevisionsByHand
 pub mod JoinsByHand
+pub mod PackingsByHand

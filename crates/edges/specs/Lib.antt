@@ -6,3 +6,4 @@ pub mod Modules
 pub mod Bars
 pub mod Revisions
 pub mod Joins
+pub mod Packings
