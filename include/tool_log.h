@@ -1,6 +1,7 @@
 /*
  * tool_log.h: the packed log of a semiconductor tool, answered: state times, the quantities, efficiencies, losses and supplemental figures of SEMI
- * E79, which standards its units were judged by, and the shift report; written, record by record; and joined from two consecutive ones.
+ * E79, which standards its units were judged by, and the shift report; written, record by record; joined from two consecutive ones; and packed, without
+ * the records that say nothing new.
  *
  * Link libtool_log_c.a (x86-64 Linux). It needs nothing but C's memcpy, memmove and memset.
  *
@@ -8,8 +9,8 @@
  * back, so threads may call it at the same time with arrays of their own. It uses less than 64 KiB of stack.
  *
  * What a function answers
- *   1  answered (tl_examine and tl_finish_log: accepted; tl_put_...: added; tl_join: joined). The answer's arrays are filled, and `refusal`
- *      becomes three zeros.
+ *   1  answered (tl_examine and tl_finish_log: accepted; tl_put_...: added; tl_join: joined; tl_pack: packed). The answer's arrays are filled, and
+ *      `refusal` becomes three zeros.
  *   0  refused. `refusal` holds number, list and place, and every other array keeps its content.
  *   2  none is in force (tl_standard_in_force alone). `refusal` becomes three zeros, and every other array keeps its content.
  *   tl_report alone answers a length instead, and takes no `refusal`: tl_examine gives the reason.
@@ -308,6 +309,28 @@ uint32_t tl_finish_log(const uint8_t *buf, size_t buf_len, size_t at, uint64_t r
  */
 uint32_t tl_join(const uint8_t *first, size_t first_len, const uint8_t *second, size_t second_len, uint8_t *buf, size_t buf_len, uint64_t length[1],
                  uint64_t refusal[3]);
+
+/*
+ * Packs a log where it is: drops each state record whose code is its module's current one, and each standard whose theoretical time is the one in force
+ * just before for its module and recipe. The log fills `buf`: buf_len is its length. The records that are kept close up, the header counts them,
+ * length[0] becomes the packed log's length, and the bytes of `buf` from there on become 0.
+ * Codes are compared, not the six states, and a record with its own module's before it, so that a module's first record is kept. So is a standard where
+ * none was in force before, and one of the time of an earlier standard that another has replaced since.
+ *
+ * The packed log is accepted. At each ms every module has the code that it had, and every module and recipe the theoretical time in force; the period,
+ * the module count and the unit records are untouched. So the state times, quantities, figures, losses and the report are the log's own. No log that says
+ * the same has fewer records, and each accepted one is packed to the same bytes. Packing those again changes none of them, nor the length.
+ * Credited units are not kept: those of a dropped standard go to the one before it, and the standards behind it move up in the list. Benchmarks of the
+ * log's standards are then those of others.
+ *
+ *     log_len = fread(log, 1, sizeof log, file);
+ *     if (tl_pack(log, log_len, length, refusal))
+ *         log_len = length[0];
+ *
+ * Refused where the log is, and then no byte of `buf` changes. A buffer with bytes behind its log is refused with 5, as any log of another length than
+ * its header counts.
+ */
+uint32_t tl_pack(uint8_t *buf, size_t buf_len, uint64_t length[1], uint64_t refusal[3]);
 
 #ifdef __cplusplus
 }
