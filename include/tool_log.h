@@ -318,7 +318,7 @@ uint32_t tl_join(const uint8_t *first, size_t first_len, const uint8_t *second, 
  * none was in force before, and one of the time of an earlier standard that another has replaced since.
  *
  * The packed log is accepted. At each ms every module has the code that it had, and every module and recipe the theoretical time in force; the period,
- * the module count and the unit records are untouched. So the state times, quantities, figures, losses and the report are the log's own. No log that says
+ * the module count and the unit records are untouched. So state times, quantities, figures, losses and the report are the log's own. No log that says
  * the same has fewer records, and each accepted one is packed to the same bytes. Packing those again changes none of them, nor the length.
  * Credited units are not kept: those of a dropped standard go to the one before it, and the standards behind it move up in the list. Benchmarks of the
  * log's standards are then those of others.
