@@ -1,7 +1,8 @@
 /* Tests every function of tool_log.h: the reading ones on case W, a log with no uptime, standards of two modules, and bytes that are refused; the
  * losses on shares with equal remainders too; credited units and the standard in force on revisions; the supplemental figures on R1-3 and on
  * benchmarks with every fault; the writing ones on every width, on every position that matters, and on bytes worked out by hand; joining on two days
- * whose joined records are given, on logs at each bound and past it, and on every log that is refused here. */
+ * whose joined records are given, on logs at each bound and past it, and on every log that is refused here; packing on a shift whose packed records are
+ * given, on each bit that tells two records apart, on the longest logs, on random ones, and on every log that is refused here. */
 #include <inttypes.h>
 #include <math.h>
 #include <stdio.h>
@@ -103,7 +104,7 @@ static uint32_t supplemental(const uint8_t *log, size_t log_len, const uint8_t *
 /* Every call on a log that is refused: each says so, gives the reason, and writes nothing else. */
 static void refused(const uint8_t *bytes, size_t length, uint64_t number, uint64_t list, uint64_t place)
 {
-    uint8_t *log = copied(bytes, length), based[4], *buf = malloc(TL_LONGEST_REPORT);
+    uint8_t *log = copied(bytes, length), *packed = copied(bytes, length), based[4], *buf = malloc(TL_LONGEST_REPORT);
     uint64_t times[6], quantities[5], losses[5], units[512], listed[1], standard[2], four[4], why[3];
     double figures[6];
 
@@ -148,12 +149,14 @@ static void refused(const uint8_t *bytes, size_t length, uint64_t number, uint64
     }
     for (size_t n = 0; n < 15; n += 7)
         CHECK(supplemental(log, length, buf, n, four, why) == 0 && is(why, number, list, place));
+    CHECK(tl_pack(packed, length, listed, why) == 0 && is(why, number, list, place) && !memcmp(packed, bytes, length));
 
     CHECK(all(buf, TL_LONGEST_REPORT, 0xa5));
     CHECK(all(times, sizeof times, 0xa5) && all(quantities, sizeof quantities, 0xa5) && all(losses, sizeof losses, 0xa5));
     CHECK(all(units, sizeof units, 0xa5) && all(listed, sizeof listed, 0xa5) && all(standard, sizeof standard, 0xa5));
     CHECK(all(figures, sizeof figures, 0xa5) && all(based, sizeof based, 0xa5));
     free(buf);
+    free(packed);
     free(log);
 }
 
@@ -959,6 +962,342 @@ static void faulty_days(void)
     refused(log.bytes, log.length, TL_BAD_COUNTS, 0, 0);
 }
 
+/* ---- packing */
+
+/* A log's records, as many as there may be. A state record is module, code, time; a standard module, recipe, start, theoretical time; a unit record
+ * module, recipe, time, actual, effective. */
+struct lists {
+    uint64_t period, modules;
+    size_t states, standards, units;
+    uint64_t state[6000][3], standard[TL_MOST_STANDARDS][4], unit[2000][5];
+};
+
+static struct span write_lists(uint8_t *buf, const struct lists *l)
+{
+    uint64_t at[1] = {0}, why[3];
+    uint32_t added;
+
+    added = tl_put_header(buf, TL_LONGEST_LOG, at[0], l->period, l->modules, l->states, l->standards, l->units, at, why);
+    for (size_t i = 0; i < l->states; i++)
+        added &= tl_put_state(buf, TL_LONGEST_LOG, at[0], l->state[i][0], l->state[i][1], l->state[i][2], at, why);
+    for (size_t i = 0; i < l->standards; i++)
+        added &= tl_put_standard(buf, TL_LONGEST_LOG, at[0], l->standard[i][0], l->standard[i][1], l->standard[i][2], l->standard[i][3], at, why);
+    for (size_t i = 0; i < l->units; i++)
+        added &= tl_put_unit(buf, TL_LONGEST_LOG, at[0], l->unit[i][0], l->unit[i][1], l->unit[i][2], l->unit[i][3], l->unit[i][4], at, why);
+    CHECK(added == 1);
+    return (struct span){buf, at[0]};
+}
+
+/* Of one period, with nothing in its lists. */
+static void clear(struct lists *l, uint64_t period, uint64_t modules)
+{
+    *l = (struct lists){.period = period, .modules = modules};
+}
+
+static void add_state(struct lists *l, uint64_t module, uint64_t code, uint64_t time)
+{
+    uint64_t *v = l->state[l->states++];
+    v[0] = module;
+    v[1] = code;
+    v[2] = time;
+}
+
+static void add_standard(struct lists *l, uint64_t module, uint64_t recipe, uint64_t start, uint64_t theoretical)
+{
+    uint64_t *v = l->standard[l->standards++];
+    v[0] = module;
+    v[1] = recipe;
+    v[2] = start;
+    v[3] = theoretical;
+}
+
+static void add_unit(struct lists *l, uint64_t module, uint64_t recipe, uint64_t time, uint64_t actual, uint64_t effective)
+{
+    uint64_t *v = l->unit[l->units++];
+    v[0] = module;
+    v[1] = recipe;
+    v[2] = time;
+    v[3] = actual;
+    v[4] = effective;
+}
+
+/* The records that say something new: each is held against the latest record ahead of it of its module, or of its module and recipe. */
+static void pack_lists(struct lists *to, const struct lists *from)
+{
+    clear(to, from->period, from->modules);
+    for (size_t i = 0; i < from->states; i++) {
+        const uint64_t *v = from->state[i];
+        size_t j = i;
+        while (j > 0 && from->state[j - 1][0] != v[0])
+            j--;
+        if (j == 0 || from->state[j - 1][1] != v[1])
+            add_state(to, v[0], v[1], v[2]);
+    }
+    for (size_t i = 0; i < from->standards; i++) {
+        const uint64_t *v = from->standard[i];
+        size_t j = i;
+        while (j > 0 && (from->standard[j - 1][0] != v[0] || from->standard[j - 1][1] != v[1]))
+            j--;
+        if (j == 0 || from->standard[j - 1][3] != v[3])
+            add_standard(to, v[0], v[1], v[2], v[3]);
+    }
+    for (size_t i = 0; i < from->units; i++)
+        add_unit(to, from->unit[i][0], from->unit[i][1], from->unit[i][2], from->unit[i][3], from->unit[i][4]);
+}
+
+/* A call on a buffer of just the log's length: `due` comes to its front and zeros behind it, and nothing beside it changes. */
+static void packs(struct span log, struct span due)
+{
+    uint8_t *buf = copied(log.bytes, log.length);
+    uint64_t lent[3], why[5];
+
+    memset(lent, 0xa5, sizeof lent);
+    memset(why, 0xa5, sizeof why);
+    CHECK(due.length <= log.length);
+    CHECK(tl_pack(buf, log.length, lent + 1, why + 1) == 1);
+    CHECK(is(why + 1, 0, 0, 0) && all(why, sizeof *why, 0xa5) && all(why + 4, sizeof *why, 0xa5));
+    CHECK(lent[1] == due.length && all(lent, sizeof *lent, 0xa5) && all(lent + 2, sizeof *lent, 0xa5));
+    CHECK(!memcmp(buf, due.bytes, due.length));
+    CHECK(all(buf + due.length, log.length - due.length, 0));
+    free(buf);
+}
+
+/* Nothing that is answered of modules and tool is another. */
+static void sums_stay(struct span log, struct span packed, size_t modules)
+{
+    uint8_t printed[2][TL_LONGEST_REPORT];
+    uint64_t times[2][6], quantities[2][5], losses[2][5], why[3];
+    const struct span logs[2] = {log, packed};
+    size_t length[2];
+
+    for (size_t m = 0; m <= modules; m++) {
+        for (int i = 0; i < 2; i++) {
+            if (m < modules) {
+                CHECK(tl_module_state_times(logs[i].bytes, logs[i].length, m, times[i], why) == 1);
+                CHECK(tl_module_quantities(logs[i].bytes, logs[i].length, m, quantities[i], why) == 1);
+                CHECK(tl_module_losses(logs[i].bytes, logs[i].length, m, losses[i], why) == 1);
+            } else {
+                CHECK(tl_tool_state_times(logs[i].bytes, logs[i].length, times[i], why) == 1);
+                CHECK(tl_tool_quantities(logs[i].bytes, logs[i].length, quantities[i], why) == 1);
+                CHECK(tl_tool_losses(logs[i].bytes, logs[i].length, losses[i], why) == 1);
+            }
+        }
+        CHECK(!memcmp(times[0], times[1], sizeof times[0]) && !memcmp(quantities[0], quantities[1], sizeof quantities[0]));
+        CHECK(!memcmp(losses[0], losses[1], sizeof losses[0]));
+    }
+    for (int i = 0; i < 2; i++)
+        length[i] = tl_report(logs[i].bytes, logs[i].length, printed[i], TL_LONGEST_REPORT);
+    CHECK(length[0] > 0 && length[0] == length[1] && !memcmp(printed[0], printed[1], length[0]));
+}
+
+/* The log is packed to `due`, which is packed already. In a longer buffer it is refused, whatever is behind it. */
+static void packed_is(struct span log, struct span due, size_t modules)
+{
+    uint8_t *longer = calloc(log.length + 1, 1);
+    uint64_t length[1] = {9}, why[3];
+
+    packs(log, due);
+    packs(due, due);
+    sums_stay(log, due, modules);
+    if (!longer)
+        abort();
+    memcpy(longer, log.bytes, log.length);
+    for (int last = 0; last < 256; last += 255) {
+        longer[log.length] = (uint8_t)last;
+        CHECK(tl_pack(longer, log.length + 1, length, why) == 0 && is(why, TL_BAD_LENGTH, 0, 0) && length[0] == 9);
+        CHECK(!memcmp(longer, log.bytes, log.length) && longer[log.length] == last);
+    }
+    free(longer);
+}
+
+static struct lists unpacked, kept;
+
+/* The log of `unpacked` is packed to that of what pack_lists keeps of it: so many state records and standards. */
+static void keeps(size_t states, size_t standards)
+{
+    static uint8_t log[TL_LONGEST_LOG], due[TL_LONGEST_LOG];
+
+    pack_lists(&kept, &unpacked);
+    CHECK(kept.states == states && kept.standards == standards && kept.units == unpacked.units);
+    packed_is(write_lists(log, &unpacked), write_lists(due, &kept), unpacked.modules);
+}
+
+/* A shift of two modules. Codes are repeated, once in the last ms; module 1 opens with the code that module 0 just got, at 10 goes to another one of
+ * the same state, and at 20 to the one that module 0 just got. Recipe 3 is stated three times, revised and revised back; recipe 4 has its time, at both
+ * modules, and is stated once more for the last ms. */
+static const struct records a_shift = {
+    1000, 2, 10, 8, 8,
+    {{0, 0, 0}, {1, 0, 0}, {0, 0, 10}, {1, 1, 10}, {0, 7, 20}, {1, 7, 20}, {0, 7, 30}, {0, 0, 40}, {1, 7, 50}, {0, 0, 999}},
+    {{0, 3, 0, 5}, {0, 3, 100, 5}, {0, 3, 200, 5}, {0, 3, 300, 4}, {0, 3, 400, 5}, {0, 4, 0, 5}, {1, 4, 0, 5}, {1, 4, 999, 5}},
+    {{0, 3, 99, 10, 9}, {0, 3, 100, 20, 15}, {0, 3, 250, 40, 0}, {0, 3, 300, 3, 3}, {0, 4, 300, 7, 1}, {0, 3, 400, 50, 49}, {1, 4, 998, 1, 1},
+     {1, 4, 999, 2, 0}},
+};
+static const struct records the_packed_shift = {
+    1000, 2, 6, 5, 8,
+    {{0, 0, 0}, {1, 0, 0}, {1, 1, 10}, {0, 7, 20}, {1, 7, 20}, {0, 0, 40}},
+    {{0, 3, 0, 5}, {0, 3, 300, 4}, {0, 3, 400, 5}, {0, 4, 0, 5}, {1, 4, 0, 5}},
+    {{0, 3, 99, 10, 9}, {0, 3, 100, 20, 15}, {0, 3, 250, 40, 0}, {0, 3, 300, 3, 3}, {0, 4, 300, 7, 1}, {0, 3, 400, 50, 49}, {1, 4, 998, 1, 1},
+     {1, 4, 999, 2, 0}},
+};
+
+static void packed_shift(void)
+{
+    const struct written log = write_records(&a_shift), packed = write_records(&the_packed_shift);
+    const uint64_t before[8] = {10, 20, 40, 3, 50, 7, 1, 2}, after[5] = {70, 3, 50, 7, 3};
+
+    packed_is(all_of(&log), all_of(&packed), 2);
+    credited_are(&log, before, 8);
+    credited_are(&packed, after, 5);
+}
+
+/* A day that was not scheduled, told three times, by its bytes; the joined days, of which the second's openings and two standards go; and case W, of
+ * which nothing does. */
+static void packed_by_hand(void)
+{
+    const uint8_t told[28] = {0x00, 0xa4, 0xcb, 0x80, 0x00, 0x40, 0x03, 0x00, 0x00, 0x00, 0x02, 0xc0, 0x00, 0x00, 0x00, 0x00,
+                              0x02, 0xc0, 0x00, 0xdb, 0xba, 0x00, 0x02, 0xc0, 0x01, 0xb7, 0x74, 0x00};
+    static const struct records days = {
+        3000, 2, 9, 6, 7,
+        {{0, 0, 0}, {1, 7, 0}, {0, 12, 300}, {1, 3, 300}, {0, 0, 400}, {0, 18, 999}, {0, 5, 1001}, {1, 22, 2500}, {0, 7, 2999}},
+        {{0, 2, 1000, 3}, {0, 3, 0, 5}, {0, 3, 500, 4}, {0, 3, 1100, 2}, {1, 3, 0, 6}, {1, 1023, 1001, 7}},
+        {{0, 3, 250, 20, 15}, {0, 3, 999, 7, 0}, {1, 3, 999, 31, 30},
+         {0, 3, 1000, 40, 40}, {0, 3, 1099, 2, 1}, {0, 2, 1100, 300, 0}, {1, 1023, 2999, 9, 8}},
+    };
+    const struct written idle = write_idle(), both = write_records(&both_days), packed = write_records(&days);
+
+    packed_is((struct span){told, sizeof told}, all_of(&idle), 1);
+    packed_is(all_of(&both), all_of(&packed), 2);
+    packed_is((struct span){week, sizeof week}, (struct span){week, sizeof week}, 3);
+}
+
+/* Every code behind every code. */
+static void each_code(void)
+{
+    for (uint64_t before = 0; before < 24; before++) {
+        for (uint64_t code = 0; code < 24; code++) {
+            clear(&unpacked, 100, 1);
+            add_state(&unpacked, 0, before, 0);
+            add_state(&unpacked, 0, code, 99);
+            keeps(code == before ? 1 : 2, 0);
+        }
+    }
+}
+
+/* Each module has its own code before: of 64 modules one goes on with its code, and the others change; or one changes. */
+static void each_module(void)
+{
+    for (uint64_t own = 0; own < 64; own++) {
+        for (int changes = 0; changes < 2; changes++) {
+            clear(&unpacked, 100, 64);
+            for (uint64_t m = 0; m < 64; m++)
+                add_state(&unpacked, m, m % 24, 0);
+            for (uint64_t m = 0; m < 64; m++)
+                add_state(&unpacked, m, (m + (m == own ? (uint64_t)changes : 1 - (uint64_t)changes)) % 24, 50);
+            keeps(changes ? 65 : 127, 0);
+        }
+    }
+}
+
+/* Two standards of one module and recipe that differ in a single bit of their time, and two of one time that differ in a single bit of their module or
+ * recipe. The second is stated once more. */
+static void each_bit(void)
+{
+    const uint64_t greatest = (1 << 27) - 1, one = 1;
+
+    for (unsigned bit = 0; bit < 27; bit++) {
+        const uint64_t times[2] = {bit ? 1 : 2, greatest};
+        for (int i = 0; i < 2; i++) {
+            clear(&unpacked, 100, 1);
+            add_state(&unpacked, 0, 0, 0);
+            add_standard(&unpacked, 0, 3, 0, times[i]);
+            add_standard(&unpacked, 0, 3, 1, times[i] ^ one << bit);
+            add_standard(&unpacked, 0, 3, 2, times[i] ^ one << bit);
+            keeps(1, 2);
+        }
+    }
+    for (unsigned bit = 0; bit < 16; bit++) {
+        const uint64_t module = bit < 6 ? one << bit : 0, recipe = bit < 6 ? 0 : one << (bit - 6);
+        clear(&unpacked, 100, 64);
+        for (uint64_t m = 0; m < 64; m++)
+            add_state(&unpacked, m, m % 24, 0);
+        add_standard(&unpacked, 0, 0, 0, greatest);
+        add_standard(&unpacked, module, recipe, 50, greatest);
+        add_standard(&unpacked, module, recipe, 99, greatest);
+        keeps(64, 2);
+    }
+}
+
+/* The longest log of a module that goes on with one code, and of a recipe stated 512 times: one record of each is left. And one of which every record
+ * stays, on the longest period. */
+static void packed_longest(void)
+{
+    clear(&unpacked, 6000, 1);
+    for (uint64_t t = 0; t < 6000; t++)
+        add_state(&unpacked, 0, 5, t);
+    for (uint64_t i = 0; i < TL_MOST_STANDARDS; i++)
+        add_standard(&unpacked, 0, 1023, 2 * i, 3);
+    for (uint64_t i = 0; i < 2000; i++)
+        add_unit(&unpacked, 0, 1023, 3 * i, 1, i % 2);
+    keeps(1, 1);
+    /* the last of each list says something new */
+    unpacked.state[5999][1] = 4;
+    unpacked.standard[511][3] = 2;
+    keeps(2, 2);
+
+    clear(&unpacked, 31622400000, 64);
+    for (uint64_t i = 0; i < 6000; i++)
+        add_state(&unpacked, i % 64, i / 64 % 24, i < 64 ? 0 : 31622400000 - 6000 + i);
+    for (uint64_t i = 0; i < TL_MOST_STANDARDS; i++)
+        add_standard(&unpacked, i / 8, 7 + i % 8 / 4, i % 4 * 1000000, 3 + i % 2);
+    for (uint64_t i = 0; i < 2000; i++)
+        add_unit(&unpacked, i % 64, 8, i / 64 * 1000000, 65535, i);
+    keeps(6000, TL_MOST_STANDARDS);
+}
+
+static uint64_t below(uint64_t *seed, uint64_t bound)
+{
+    *seed = *seed * 6364136223846793005u + 1442695040888963407u;
+    return (*seed >> 33) % bound;
+}
+
+/* Random logs of few codes, recipes and times, so that many records say nothing new. At each ms each recipe has the time in force that it had. */
+static void packed_random(void)
+{
+    static uint8_t log[TL_LONGEST_LOG], due[TL_LONGEST_LOG];
+    uint64_t seed = 20261201, was[2], is_now[2], why[3];
+
+    for (int turn = 0; turn < 500; turn++) {
+        struct span whole, packed;
+
+        clear(&unpacked, 40, 1 + below(&seed, 3));
+        for (uint64_t t = 0; t < 40; t++) {
+            for (uint64_t m = 0; m < unpacked.modules; m++) {
+                if (t == 0 || below(&seed, 4) == 0)
+                    add_state(&unpacked, m, below(&seed, 3) * (uint64_t)(turn % 8), t);
+            }
+        }
+        for (uint64_t m = 0; m < unpacked.modules; m++) {
+            for (uint64_t recipe = 0; recipe < 3; recipe++) {
+                for (uint64_t t = 0; t < 40; t++) {
+                    if (below(&seed, 12) == 0)
+                        add_standard(&unpacked, m, recipe, t, 1 + below(&seed, 2));
+                }
+            }
+        }
+        pack_lists(&kept, &unpacked);
+        whole = write_lists(log, &unpacked);
+        packed = write_lists(due, &kept);
+        packed_is(whole, packed, unpacked.modules);
+        for (uint64_t m = 0; m < unpacked.modules; m++) {
+            for (uint64_t i = 0; i < 3 * 40; i++) {
+                const uint32_t found = tl_standard_in_force(whole.bytes, whole.length, m, i % 3, i / 3, was, why);
+                CHECK(tl_standard_in_force(packed.bytes, packed.length, m, i % 3, i / 3, is_now, why) == found);
+                CHECK(found == 2 || was[TL_THEORETICAL] == is_now[TL_THEORETICAL]);
+            }
+        }
+    }
+}
+
 /* ---- writing */
 
 /* The adding calls by the list of their records: sizes in bytes, widths in bits. What is left of a record is spare. */
@@ -1230,6 +1569,13 @@ int main(void)
     three_days();
     at_the_bounds();
     faulty_days();
+    packed_shift();
+    packed_by_hand();
+    each_code();
+    each_module();
+    each_bit();
+    packed_longest();
+    packed_random();
     damaged();
     random_bytes();
     printf("c: %u checks, %u failed\n", checks, failures);

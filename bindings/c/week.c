@@ -3,10 +3,9 @@
  * the log that it is about, and leaves RESULT alone. Where the logs so far are not to be joined with the next one, that is the next one's name.
  * Exit status: 0 joined, 1 refused, 2 no log or no result. */
 #include <stdio.h>
-#include <stdlib.h>
-#include <string.h>
 
 #include "input.h"
+#include "output.h"
 #include "refusal.h"
 #include "tool_log.h"
 
@@ -15,29 +14,6 @@ static int refused(const char *name, const uint64_t refusal[3])
     printf("%s: ", name);
     print_refusal(refusal);
     return 1;
-}
-
-/* Writes a file whole or not at all: a new one beside it, which then takes its name. */
-static int save(const char *path, const uint8_t *bytes, size_t length)
-{
-    char *beside = malloc(strlen(path) + sizeof ".new");
-    FILE *f;
-    int good = 0;
-
-    if (beside) {
-        strcat(strcpy(beside, path), ".new");
-        f = fopen(beside, "wb");
-        if (f) {
-            good = fwrite(bytes, 1, length, f) == length;
-            good = fclose(f) == 0 && good && rename(beside, path) == 0;
-            if (!good)
-                remove(beside);
-        }
-    }
-    if (!good)
-        fprintf(stderr, "%s: not written\n", path);
-    free(beside);
-    return good;
 }
 
 int main(int argc, char **argv)
@@ -62,7 +38,7 @@ int main(int argc, char **argv)
         joined = other;
         other = last;
     }
-    if (!save(argv[1], joined, length[0]))
+    if (!save_file(argv[1], joined, length[0]))
         return 2;
     fwrite(report, 1, tl_report(joined, length[0], report, sizeof report), stdout);
     return 0;
