@@ -3,19 +3,14 @@
 //! Joins the logs in this sequence, writes the joined log to the file RESULT and prints its report; or prints the refusal in words, behind the name of
 //! the log that it is about, and leaves RESULT alone. Where the logs so far are not to be joined with the next one, that is the next one's name.
 
+#[path = "shared/saving.rs"]
+mod saving;
 mod shared;
 
-use std::{env, fs, io, process::exit};
+use std::{env, process::exit};
 use tool_log::{examine, join_logs, report, Refusal, LONGEST_LOG, LONGEST_REPORT};
 
 const USAGE: &str = "week RESULT LOG LOG..";
-
-// Writes a file whole or not at all: a new one beside it, which then takes its name.
-fn save(path: &str, log: &[u8]) -> io::Result<()> {
-    let beside = format!("{path}.new");
-    fs::write(&beside, log)?;
-    fs::rename(&beside, path)
-}
 
 // The answer, or the end of the program at a refusal of this log.
 fn of<T>(name: &str, answer: Result<T, Refusal>) -> T {
@@ -38,9 +33,6 @@ fn main() {
         joined = of(name, join_logs(&joined, &log));
     }
     let result = &names[1];
-    if let Err(e) = save(result, &joined) {
-        eprintln!("{result}: {e}");
-        exit(2);
-    }
+    saving::save(result, &joined);
     print!("{}", of(result, report(&joined)));
 }

@@ -94,4 +94,5 @@ extern "C" {
         length: *mut [u64; 1],
         refusal: *mut [u64; 3],
     ) -> u32;
+    pub fn tl_pack(buf: *mut u8, buf_len: usize, length: *mut [u64; 1], refusal: *mut [u64; 3]) -> u32;
 }

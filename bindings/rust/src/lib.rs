@@ -1,8 +1,9 @@
 //! The packed log of a semiconductor tool, answered: state times, the quantities, efficiencies, losses and supplemental figures of SEMI E79, which
-//! standards its units were judged by, and the shift report; written; and joined from two consecutive ones.
+//! standards its units were judged by, and the shift report; written; joined from two consecutive ones; and packed, without the records that say
+//! nothing new.
 //!
 //! Every function takes any bytes as a log, or as benchmarks, and answers or refuses. Times are whole milliseconds. A module is counted from 0. A
-//! [`Writer`] makes a log record by record, and [`join_logs`] makes it of two logs.
+//! [`Writer`] makes a log record by record, [`join_logs`] makes it of two logs, and [`pack_log`] makes it of a longer one.
 
 pub mod c;
 
@@ -401,6 +402,20 @@ pub fn join_logs_into<'a>(first: &[u8], second: &[u8], buf: &'a mut [u8]) -> Res
 pub fn join_logs(first: &[u8], second: &[u8]) -> Result<Vec<u8>, Refusal> {
     let mut buf = [0; LONGEST_LOG];
     join_logs_into(first, second, &mut buf).map(|log| log.to_vec())
+}
+
+/// Packs the log that fills the buffer and hands the packed one back; the bytes behind it are 0 then. Where the log is refused, no byte changes: a
+/// buffer with bytes behind its log is one of another length.
+pub fn pack_log_in_place(buf: &mut [u8]) -> Result<&mut [u8], Refusal> {
+    let [length] = numbers(|length, refusal| unsafe { c::tl_pack(buf.as_mut_ptr(), buf.len(), length, refusal) })?;
+    Ok(&mut buf[..length as usize])
+}
+
+/// The log without each state record whose code is its module's current one, and without each standard whose time is the one in force just before for
+/// its module and recipe. Each ms keeps its codes and its times in force, so that state times, quantities, figures, losses and the report stay. No log
+/// that says the same is shorter. The units of a dropped standard are credited to the one before it.
+pub fn pack_log(log: &[u8]) -> Result<Vec<u8>, Refusal> {
+    pack_log_in_place(&mut log.to_vec()).map(|packed| packed.to_vec())
 }
 
 /// A log written record by record into a lent buffer: the header, then the states, standards and units that it counts, then `finish`.

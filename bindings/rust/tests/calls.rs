@@ -1,6 +1,7 @@
 //! Every call on logs packed here: case W, a log with no uptime, standards of two modules, and bytes that are refused; the losses on shares with
 //! equal remainders too; credited units and the standard in force on revisions; the supplemental figures on R1-3 and on benchmarks with every fault;
-//! the writing ones on records packed here too; and joining on two days whose joined records are given, and on logs at each bound and past it.
+//! the writing ones on records packed here too; joining on two days whose joined records are given, and on logs at each bound and past it; and packing
+//! a log on a shift whose packed records are given, on each bit that tells two records apart, on the longest logs and on random ones.
 
 use tool_log::*;
 
@@ -203,6 +204,10 @@ fn turned_back(log: &[u8], ground: Ground, list: List, place: u64) {
         assert_eq!(join_logs_into(first, second, &mut buf[..0]), Err(why));
         assert_eq!(buf, [0xa5; LONGEST_REPORT]);
     }
+    assert_eq!(pack_log(log), Err(why));
+    let mut own = log.to_vec();
+    assert_eq!(pack_log_in_place(&mut own), Err(why));
+    assert!(own == log);
 }
 
 #[test]
@@ -1063,4 +1068,192 @@ fn faulty_days() {
     faulty(|day| day.lists[2][2][2] = 98, Ground::Unsorted, List::Units, 2);
     faulty(|day| day.lists[2][2][3] = 65535, Ground::TooFast, List::None, 0);
     faulty(|day| day.lists[2][3][3] = 215, Ground::TooFast, List::None, 1);
+}
+
+// ---- packing
+
+impl Records {
+    // What says something new: each record is held against the latest one ahead of it of its module, or of its module and recipe.
+    fn packed(&self) -> Records {
+        let mut packed = self.clone();
+        for (list, key, value) in [(0, 1, 1), (1, 2, 3)] {
+            let all = &self.lists[list];
+            let repeats = |i: usize| all[..i].iter().rfind(|it| it[..key] == all[i][..key]).is_some_and(|before| before[value] == all[i][value]);
+            packed.lists[list] = (0..all.len()).filter(|&i| !repeats(i)).map(|i| all[i].clone()).collect();
+        }
+        packed
+    }
+
+    fn count(&self) -> (usize, usize) {
+        (self.lists[0].len(), self.lists[1].len())
+    }
+}
+
+// The packed log, apart and in place, where zeros are behind it; it is packed already, and answers what the log does.
+fn packs(log: &[u8], due: &[u8]) {
+    for log in [log, due] {
+        assert!(pack_log(log).as_deref() == Ok(due));
+        let mut buf = log.to_vec();
+        assert_eq!(pack_log_in_place(&mut buf).map(|packed| packed.len()), Ok(due.len()));
+        assert!(buf == [due, &vec![0; log.len() - due.len()]].concat());
+    }
+    assert!(module_count(log) == module_count(due) && report(log) == report(due));
+    for m in 0..module_count(log).unwrap() {
+        assert_eq!(module_state_times(log, m), module_state_times(due, m));
+        assert_eq!(module_quantities(log, m), module_quantities(due, m));
+        assert_eq!(module_losses(log, m), module_losses(due, m));
+    }
+    assert_eq!(tool_state_times(log), tool_state_times(due));
+    assert_eq!(tool_quantities(log), tool_quantities(due));
+    assert_eq!(tool_losses(log), tool_losses(due));
+}
+
+// So many state records and standards of the log say something new.
+fn keeps(records: &Records, states: usize, standards: usize) {
+    let packed = records.packed();
+    assert_eq!(packed.count(), (states, standards));
+    packs(&records.log(), &packed.log());
+}
+
+// Codes are repeated, once in the last ms; module 1 opens with the code that module 0 just got, at 10 goes to another one of the same state, and at 20 to
+// the one that module 0 just got. Recipe 3 is stated three times, revised and revised back; recipe 4 has its time, at both modules, and is stated once
+// more for the last ms.
+#[test]
+fn packed_shift() {
+    let units = [
+        [0, 3, 99, 10, 9],
+        [0, 3, 100, 20, 15],
+        [0, 3, 250, 40, 0],
+        [0, 3, 300, 3, 3],
+        [0, 4, 300, 7, 1],
+        [0, 3, 400, 50, 49],
+        [1, 4, 998, 1, 1],
+        [1, 4, 999, 2, 0],
+    ];
+    let log = records(
+        1000,
+        2,
+        [[0, 0, 0], [1, 0, 0], [0, 0, 10], [1, 1, 10], [0, 7, 20], [1, 7, 20], [0, 7, 30], [0, 0, 40], [1, 7, 50], [0, 0, 999]],
+        [[0, 3, 0, 5], [0, 3, 100, 5], [0, 3, 200, 5], [0, 3, 300, 4], [0, 3, 400, 5], [0, 4, 0, 5], [1, 4, 0, 5], [1, 4, 999, 5]],
+        units,
+    );
+    let packed = records(
+        1000,
+        2,
+        [[0, 0, 0], [1, 0, 0], [1, 1, 10], [0, 7, 20], [1, 7, 20], [0, 0, 40]],
+        [[0, 3, 0, 5], [0, 3, 300, 4], [0, 3, 400, 5], [0, 4, 0, 5], [1, 4, 0, 5]],
+        units,
+    );
+    packs(&log.log(), &packed.log());
+    keeps(&log, 6, 5);
+    assert_eq!(credited_units(&log.log()).unwrap()[..9], [10, 20, 40, 3, 50, 7, 1, 2, 0]);
+    assert_eq!(credited_units(&packed.log()).unwrap()[..6], [70, 3, 50, 7, 3, 0]);
+    // In a longer buffer it is refused, whatever is behind it.
+    for behind in [&[0][..], &[0xa5], &[0; 1000], &log.log()] {
+        let longer = [&log.log(), behind].concat();
+        let mut buf = longer.clone();
+        assert_eq!(pack_log_in_place(&mut buf), Err(Refusal { ground: Ground::Length, list: List::None, place: 0 }));
+        assert!(buf == longer);
+    }
+}
+
+// A day that was not scheduled, told three times, by its bytes; two days joined, of which the second's openings and two standards go; and case W, of
+// which nothing does.
+#[test]
+fn packed_by_hand() {
+    let day = [0, 0xa4, 0xcb, 0x80, 0, 0x40, 0x03, 0, 0, 0, 0x02, 0xc0, 0, 0, 0, 0, 0x02, 0xc0, 0, 0xdb, 0xba, 0, 0x02, 0xc0, 0x01, 0xb7, 0x74, 0];
+    packs(&day, &idle());
+    let mut days = both_days();
+    days.lists[0].retain(|state| *state != [0, 18, 1000] && *state != [1, 3, 1000]);
+    days.lists[1].retain(|standard| *standard != [0, 3, 1000, 4] && *standard != [1, 3, 1499, 6]);
+    assert_eq!(days.count(), (9, 6));
+    packs(&both_days().log(), &days.log());
+    packs(&week(), &week());
+}
+
+#[test]
+fn packed_each_code() {
+    for (before, code) in (0..24).flat_map(|before| (0..24).map(move |code| (before, code))) {
+        keeps(&records(100, 1, [[0, before, 0], [0, code, 99]], [], []), if code == before { 1 } else { 2 }, 0);
+    }
+}
+
+// Of 64 modules one goes on with its code, and the others change; or one changes.
+#[test]
+fn packed_each_module() {
+    for (own, others) in (0..64).flat_map(|own| [(own, 0), (own, 1)]) {
+        let mut log = records(100, 64, [], [], []);
+        log.lists[0].extend((0..64).map(|m| vec![m, m % 24, 0]));
+        log.lists[0].extend((0..64).map(|m| vec![m, (m + if m == own { 1 - others } else { others }) % 24, 50]));
+        keeps(&log, if others == 1 { 127 } else { 65 }, 0);
+    }
+}
+
+// Two standards that differ in a single bit of their time, and two that differ in one of their module or recipe. The second is stated once more.
+#[test]
+fn packed_each_bit() {
+    for bit in 0..27 {
+        for time in [if bit == 0 { 2 } else { 1 }, greatest(27)] {
+            let other = time ^ 1 << bit;
+            keeps(&records(100, 1, [[0, 0, 0]], [[0, 3, 0, time], [0, 3, 1, other], [0, 3, 2, other]], []), 1, 2);
+        }
+    }
+    let others = (0..6).map(|bit| (1 << bit, 0)).chain((0..10).map(|bit| (0, 1 << bit)));
+    for (module, recipe) in others {
+        let time = greatest(27);
+        let mut log = records(100, 64, [], [[0, 0, 0, time], [module, recipe, 50, time], [module, recipe, 99, time]], []);
+        log.lists[0].extend((0..64).map(|m| vec![m, m % 24, 0]));
+        keeps(&log, 64, 2);
+    }
+}
+
+// One code and one standard told over and over, at last another of each; and a log of which every record stays.
+#[test]
+fn packed_longest() {
+    let mut log = records(6000, 1, [], [], []);
+    log.lists[0].extend((0..6000).map(|time| vec![0, 5, time]));
+    log.lists[1].extend((0..512).map(|i| vec![0, 1023, 2 * i, 3]));
+    log.lists[2].extend((0..2000).map(|i| vec![0, 1023, 3 * i, 1, i % 2]));
+    keeps(&log, 1, 1);
+    log.lists[0][5999][1] = 4;
+    log.lists[1][511][3] = 2;
+    keeps(&log, 2, 2);
+    let mut log = records(LONGEST, 64, [], [], []);
+    log.lists[0].extend((0..6000).map(|i| vec![i % 64, i / 64 % 24, if i < 64 { 0 } else { LONGEST - 6000 + i }]));
+    log.lists[1].extend((0..512).map(|i| vec![i / 8, 7 + i % 8 / 4, i % 4 * 1_000_000, 3 + i % 2]));
+    log.lists[2].extend((0..2000).map(|i| vec![i % 64, 8, i / 64 * 1_000_000, 65535, i]));
+    assert_eq!(log.log().len(), LONGEST_LOG);
+    keeps(&log, 6000, 512);
+}
+
+// Few codes, recipes and times, so that many records say nothing new. At each ms each recipe has the time in force that it had.
+#[test]
+fn packed_random() {
+    let mut seed: u64 = 20261201;
+    let mut below = |bound: u64| {
+        seed = seed.wrapping_mul(6364136223846793005).wrapping_add(1442695040888963407);
+        (seed >> 33) % bound
+    };
+    for turn in 0..200 {
+        let modules = 1 + below(3);
+        let mut log = records(40, modules, [], [], []);
+        for (time, module) in (0..40).flat_map(|time| (0..modules).map(move |module| (time, module))) {
+            if time == 0 || below(4) == 0 {
+                log.lists[0].push(vec![module, below(3) * (turn % 8), time]);
+            }
+        }
+        for (module, recipe) in (0..modules).flat_map(|module| (0..3).map(move |recipe| (module, recipe))) {
+            for start in 0..40 {
+                if below(12) == 0 {
+                    log.lists[1].push(vec![module, recipe, start, 1 + below(2)]);
+                }
+            }
+        }
+        let (whole, packed) = (log.log(), log.packed().log());
+        packs(&whole, &packed);
+        let in_force = |log: &[u8], m, recipe, time| standard_in_force(log, m, recipe, time).unwrap().map(|standard| standard.time);
+        for (m, recipe) in (0..modules as usize).flat_map(|m| (0..3).map(move |recipe| (m, recipe))) {
+            assert!((0..40).all(|time| in_force(&whole, m, recipe, time) == in_force(&packed, m, recipe, time)));
+        }
+    }
 }
