@@ -1,8 +1,10 @@
 """Tests tool_log.py on logs packed here: case W, a log with no uptime, standards of two modules, and bytes that are refused; the losses on all shares
 of short periods too, and their picture; credited units and the standard in force on revisions, and their table; the supplemental figures on R1-3 and
-on benchmarks with every fault; its writer on what is packed here too; and joining on two days whose joined records are given, on the samples, on
-random logs, and on logs at each bound and past it."""
+on benchmarks with every fault; its writer on what is packed here too; joining on two days whose joined records are given, on the samples, on random
+logs, and on logs at each bound and past it; and packing a log on a shift whose packed records are given, on each bit that tells two records apart, on
+the samples, on the longest logs and on random ones."""
 
+import array
 import enum
 import fractions
 import itertools
@@ -16,7 +18,7 @@ import revisions
 import tool_log
 from losses import PARTS, picture
 from tool_log import Figures, InForce, Losses, Quantities, Refused, StateTimes, Supplemental, Writer
-from tool_log import join_logs, join_logs_into, pack_benchmarks, supplemental, write_log
+from tool_log import join_logs, join_logs_into, pack_benchmarks, pack_log, pack_log_in_place, supplemental, write_log
 
 ROOT = pathlib.Path(__file__).resolve().parent.parent.parent
 
@@ -147,6 +149,7 @@ CALLS = (
     lambda log: join_logs(log, case_w()),
     lambda log: join_logs(log, b""),
     lambda log: join_logs(log, log),
+    pack_log,
 )
 
 
@@ -170,6 +173,9 @@ class Calls(Case):
         self.refused(number, list + 10, place, join_logs_into, case_w(), log, bytearray())
         self.assertEqual(buffer, b"\xa5" * tool_log.LONGEST_REPORT)
         self.refused(1, 0, 0, join_logs, b"", log)
+        own = bytearray(log)
+        self.refused(number, list, place, pack_log_in_place, own)
+        self.assertEqual(own, log)
 
     def test_report(self):
         log = case_w()
@@ -1059,6 +1065,183 @@ class Joining(Case):
             with self.assertRaises(Refused) as caught:
                 join_logs(bytes_of(*DAY_1), second)
             self.assertEqual(str(caught.exception), "refused: " + words)
+
+
+# A shift of two modules. Codes are repeated, once in the last ms; module 1 opens with the code that module 0 just got, at 10 goes to another one of the
+# same state, and at 20 to the one that module 0 just got. Recipe 3 is stated three times, revised and revised back; recipe 4 has its time, at both
+# modules, and is stated once more for the last ms.
+A_SHIFT = (1000, 2,
+           [(0, 0, 0), (1, 0, 0), (0, 0, 10), (1, 1, 10), (0, 7, 20), (1, 7, 20), (0, 7, 30), (0, 0, 40), (1, 7, 50), (0, 0, 999)],
+           [(0, 3, 0, 5), (0, 3, 100, 5), (0, 3, 200, 5), (0, 3, 300, 4), (0, 3, 400, 5), (0, 4, 0, 5), (1, 4, 0, 5), (1, 4, 999, 5)],
+           [(0, 3, 99, 10, 9), (0, 3, 100, 20, 15), (0, 3, 250, 40, 0), (0, 3, 300, 3, 3), (0, 4, 300, 7, 1), (0, 3, 400, 50, 49),
+            (1, 4, 998, 1, 1), (1, 4, 999, 2, 0)])
+PACKED_SHIFT = (1000, 2,
+                [(0, 0, 0), (1, 0, 0), (1, 1, 10), (0, 7, 20), (1, 7, 20), (0, 0, 40)],
+                [(0, 3, 0, 5), (0, 3, 300, 4), (0, 3, 400, 5), (0, 4, 0, 5), (1, 4, 0, 5)],
+                A_SHIFT[4])
+
+
+def kept(records, key, value):
+    """The records whose value is not the one that the latest record ahead of it with their key has."""
+    before, rest = {}, []
+    for record in records:
+        if before.get(record[:key]) != record[value]:
+            rest.append(record)
+        before[record[:key]] = record[value]
+    return rest
+
+
+def packed_records(period, modules, states, standards, units):
+    """The records of a log that say something new: by module the code, by module and recipe the theoretical time."""
+    return period, modules, kept(states, 1, 1), kept(standards, 2, 3), units
+
+
+def told(states, modules, period):
+    """The code of each module at each ms."""
+    return [[next(code for m, code, since in reversed(states) if m == module and since <= time) for time in range(period)] for module in range(modules)]
+
+
+class Packing(Case):
+    def packs(self, log, due):
+        """The packed log, apart and in place: zeros are behind it. What is packed stays as it is."""
+        packed = pack_log(log)
+        self.assertIs(type(packed), bytes)
+        self.assertEqual(packed, due)
+        buffer = bytearray(log)
+        self.assertEqual(pack_log_in_place(buffer), len(due))
+        self.assertEqual(buffer, due + bytes(len(log) - len(due)))
+
+    def packed_is(self, records, due):
+        """The log of these records is packed to that of `due`, which is packed already, and both answer alike."""
+        log, packed = bytes_of(*records), bytes_of(*due)
+        self.packs(log, packed)
+        self.packs(packed, packed)
+        self.assertEqual(sums(packed), sums(log))
+        self.assertEqual(tool_log.report(packed), tool_log.report(log))
+        self.assertEqual(tool_log.tool_losses(packed), tool_log.tool_losses(log))
+
+    def keeps(self, records, states, standards):
+        """So many state records and standards say something new."""
+        due = packed_records(*records)
+        self.assertEqual((len(due[2]), len(due[3])), (states, standards))
+        self.packed_is(records, due)
+
+    def test_shift(self):
+        self.packed_is(A_SHIFT, PACKED_SHIFT)
+        self.assertEqual(tool_log.credited_units(bytes_of(*A_SHIFT))[:9], (10, 20, 40, 3, 50, 7, 1, 2, 0))
+        self.assertEqual(tool_log.credited_units(pack_log(bytes_of(*A_SHIFT)))[:6], (70, 3, 50, 7, 3, 0))
+
+    def test_by_bytes(self):
+        # A day that was not scheduled, told three times.
+        day = bytes.fromhex("00a4cb80004003000000 02c000000000 02c000dbba00 02c001b77400")
+        self.packs(day, idle())
+        self.packs(idle(), idle())
+        self.packs(case_w(), case_w())
+
+    def test_joined_days(self):
+        # The second's openings, and the standards that it states once more, are gone.
+        period, modules, states, standards, units = BOTH_DAYS
+        states = [record for record in states if record not in ((0, 18, 1000), (1, 3, 1000))]
+        standards = [record for record in standards if record not in ((0, 3, 1000, 4), (1, 3, 1499, 6))]
+        self.packed_is(BOTH_DAYS, (period, modules, states, standards, units))
+        self.assertEqual(pack_log(join_logs(bytes_of(*DAY_1), bytes_of(*DAY_2))), bytes_of(period, modules, states, standards, units))
+
+    def test_lent(self):
+        log, packed = bytes_of(*A_SHIFT), bytes_of(*PACKED_SHIFT)
+        zeros = bytes(len(log) - len(packed))
+        own = bytearray(log)
+        for given in (own, memoryview(own), memoryview(log)):
+            self.assertEqual(pack_log(given), packed)
+        self.assertEqual(own, log)
+        # a part of a buffer, which is all that changes
+        longer = bytearray(b"\xa5" * 7 + log + b"\xa5" * 7)
+        self.assertEqual(pack_log_in_place(memoryview(longer)[7:-7]), len(packed))
+        self.assertEqual(longer, b"\xa5" * 7 + packed + zeros + b"\xa5" * 7)
+        # items of other sizes are taken as their bytes
+        numbers = array.array("H", log)
+        self.assertEqual(pack_log_in_place(numbers), len(packed))
+        self.assertEqual(numbers.tobytes(), packed + zeros)
+        for given in (log, memoryview(log), memoryview(bytearray(2 * len(log)))[::2], "log", None, 5):
+            self.assertRaises(TypeError, pack_log_in_place, given)
+        self.assertEqual(log, bytes_of(*A_SHIFT))
+
+    def test_longer_buffer(self):
+        for log in (bytes_of(*A_SHIFT), bytes_of(*PACKED_SHIFT), idle()):
+            for behind in (b"\0", b"\xa5", b"\0" * 1000, log):
+                buffer = bytearray(log + behind)
+                self.refused(5, 0, 0, pack_log_in_place, buffer)
+                self.assertEqual(buffer, log + behind)
+                self.refused(5, 0, 0, pack_log, log + behind)
+
+    def test_lent_no_longer(self):
+        # A buffer can be resized once it was packed or refused, while the refusal is at hand too.
+        buffer = bytearray(idle() + b"\0")
+        refused = self.refused(5, 0, 0, pack_log_in_place, buffer)
+        del buffer[-1]
+        self.assertEqual(pack_log_in_place(buffer), 16)
+        buffer.append(0)
+        self.assertEqual((refused.number, len(buffer)), (5, 17))
+
+    def test_each_code(self):
+        for before, code in itertools.product(range(24), repeat=2):
+            self.keeps((100, 1, [(0, before, 0), (0, code, 99)], [], []), 1 if code == before else 2, 0)
+
+    def test_each_module(self):
+        # Of 64 modules one goes on with its code, and the others change; or one changes.
+        openings = [(module, module % 24, 0) for module in range(64)]
+        for own in range(64):
+            for others in 0, 1:
+                later = [(module, (module + (1 - others if module == own else others)) % 24, 50) for module in range(64)]
+                self.keeps((100, 64, openings + later, [], []), 127 if others else 65, 0)
+
+    def test_each_bit(self):
+        # Two standards that differ in a single bit of their time, and two that differ in one of their module or recipe. The second is stated once more.
+        greatest = 2**27 - 1
+        for bit in range(27):
+            for time in (1 if bit else 2, greatest):
+                self.keeps((100, 1, [(0, 0, 0)], [(0, 3, 0, time), (0, 3, 1, time ^ 1 << bit), (0, 3, 2, time ^ 1 << bit)], []), 1, 2)
+        openings = [(module, module % 24, 0) for module in range(64)]
+        for other in [(1 << bit, 0) for bit in range(6)] + [(0, 1 << bit) for bit in range(10)]:
+            self.keeps((100, 64, openings, [(0, 0, 0, greatest), (*other, 50, greatest), (*other, 99, greatest)], []), 64, 2)
+
+    def test_longest(self):
+        units = [(0, 1023, 3 * i, 1, i % 2) for i in range(2000)]
+        states, standards = [(0, 5, time) for time in range(6000)], [(0, 1023, 2 * i, 3) for i in range(512)]
+        self.keeps((6000, 1, states, standards, units), 1, 1)
+        self.keeps((6000, 1, states[:-1] + [(0, 4, 5999)], standards[:-1] + [(0, 1023, 1022, 2)], units), 2, 2)
+        states = [(i % 64, i // 64 % 24, 0 if i < 64 else LONGEST_PERIOD - 6000 + i) for i in range(6000)]
+        standards = [(i // 8, 7 + i % 8 // 4, i % 4 * 1000000, 3 + i % 2) for i in range(512)]
+        units = [(i % 64, 8, i // 64 * 1000000, 65535, i) for i in range(2000)]
+        self.keeps((LONGEST_PERIOD, 64, states, standards, units), 6000, 512)
+
+    def test_samples(self):
+        for name, log in accepted_samples():
+            with self.subTest(name):
+                self.packed_is(decoded(log), packed_records(*decoded(log)))
+
+    def test_random_logs(self):
+        # At each ms each module keeps its code and each recipe its time in force, and no record is left that could go.
+        source = random.Random(20261201)
+        for turn in range(300):
+            period, modules = 40, source.choice((1, 2, 3))
+            codes = source.sample(range(24), source.choice((1, 2, 3)))
+            states = [(m, source.choice(codes), t) for t in range(period) for m in range(modules) if t == 0 or source.random() < 0.3]
+            keys = [(m, r, t) for m in range(modules) for r in (0, 5, 1023) for t in range(period) if source.random() < 0.1]
+            standards = [(*key, source.choice((1, 2))) for key in keys]
+            self.packed_is((period, modules, states, standards, []), packed_records(period, modules, states, standards, []))
+
+            log = bytes_of(period, modules, states, standards, [])
+            _, _, kept_states, kept_standards, _ = decoded(pack_log(log))
+            codes = told(states, modules, period)
+            self.assertEqual(told(kept_states, modules, period), codes)
+            self.assertEqual(len(kept_states), modules + sum(a != b for of_module in codes for a, b in itertools.pairwise(of_module)))
+            changes = 0
+            for m, r in itertools.product(range(modules), (0, 5, 1023)):
+                was, now = [[latest(of_log, m, r, t) for t in range(period)] for of_log in (standards, kept_standards)]
+                self.assertEqual([found and found.time for found in now], [found and found.time for found in was])
+                times = [None] + [found and found.time for found in was]
+                changes += sum(a != b for a, b in itertools.pairwise(times))
+            self.assertEqual(len(kept_standards), changes)
 
 
 if __name__ == "__main__":

@@ -1,9 +1,10 @@
 """The packed log of a semiconductor tool, answered: state times, the quantities, efficiencies, losses and supplemental figures of SEMI E79, which
-standards its units were judged by, and the shift report; written; and joined from two consecutive ones.
+standards its units were judged by, and the shift report; written; joined from two consecutive ones; and packed, without the records that say nothing
+new.
 
 A log, and its benchmarks, are any bytes-like object. Each call answers numbers, text or bytes, or raises Refused. Times are whole milliseconds.
-A module is counted from 0. write_log makes a log of its records, Writer makes it record by record, join_logs makes it of two logs, and
-pack_benchmarks makes benchmarks.
+A module is counted from 0. write_log makes a log of its records, Writer makes it record by record, join_logs makes it of two logs, pack_log makes it
+of a longer one, and pack_benchmarks makes benchmarks.
 The shared object libtool_log.so stands beside this file; the environment's TOOL_LOG_LIBRARY names another.
 """
 
@@ -189,6 +190,7 @@ _put_standard = _function("tl_put_standard", _u32, _size, _u64, _u64, _u64, _u64
 _put_unit = _function("tl_put_unit", _u32, _size, _u64, _u64, _u64, _u64, _u64, _P(_Next), _P(_Refusal))
 _finish_log = _function("tl_finish_log", _u32, _size, _P(_Refusal))
 _join = _function("tl_join", _u32, ctypes.c_char_p, _size, ctypes.c_char_p, _size, _P(_Length), _P(_Refusal))
+_pack = _function("tl_pack", _u32, _P(_Length), _P(_Refusal))
 
 
 def _bytes(log) -> bytes:
@@ -442,3 +444,24 @@ def join_logs(first, second) -> bytes:
     about the first, which examine tells."""
     buffer = bytearray(LONGEST_LOG)
     return bytes(buffer[: join_logs_into(first, second, buffer)])
+
+
+# ---- a log without the records that say nothing new
+
+
+def pack_log_in_place(buffer) -> int:
+    """Packs the log that fills a writable buffer and returns its new length; the bytes behind it are 0 then. Where the log is refused, no byte changes:
+    a buffer with bytes behind its log is one of another length. A buffer that is read only is a TypeError."""
+    length, refusal = _Length(), _Refusal()
+    with memoryview(buffer) as view, view.cast("B") as lent:
+        if not _pack(_lent(lent), len(lent), ctypes.byref(length), ctypes.byref(refusal)):
+            raise Refused(*refusal)
+    return length[0]
+
+
+def pack_log(log) -> bytes:
+    """The log without each state record whose code is its module's current one, and without each standard whose time is the one in force just before
+    for its module and recipe. Each ms keeps its codes and its times in force, so that state times, quantities, figures, losses and the report stay. No
+    log that says the same is shorter. The units of a dropped standard are credited to the one before it."""
+    buffer = bytearray(_bytes(log))
+    return bytes(buffer[: pack_log_in_place(buffer)])

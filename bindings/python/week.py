@@ -4,19 +4,11 @@ Joins the logs in this sequence, writes the joined log to the file RESULT and pr
 log that it is about, and leaves RESULT alone. Where the logs so far are not to be joined with the next one, that is the next one's name.
 """
 
-import os
 import sys
 
 import tool_log
 from reading import read
-
-
-def save(path, log):
-    """Writes a file whole or not at all: a new one beside it, which then takes its name."""
-    beside = path + ".new"
-    with open(beside, "wb") as f:
-        f.write(log)
-    os.replace(beside, path)
+from saving import save
 
 
 def main():
