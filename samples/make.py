@@ -272,6 +272,59 @@ def joined(first, second):
     return period + later, modules, states, sorted(standards), units
 
 
+# A week of a tool of two modules: (code, hours) of their stretches, five days and a weekend.
+MINUTES_STRETCHES = [
+    [(REGULAR, 7), (REWORK, 2), (REGULAR, 7), (NO_PRODUCT, 5), (UNWORKED_SHIFT, 3)] * 5 + [(UNWORKED_SHIFT, 24), (UNWORKED_SHIFT, 24)],
+    [(REGULAR, 235 / 60), (NO_PRODUCT, 1025 / 60), (UNWORKED_SHIFT, 3)] * 5 + [(UNWORKED_SHIFT, 24), (PREVENTIVE, 4), (UNWORKED_SHIFT, 20)],
+]
+
+
+def each_minute(module, stretches):
+    """State records of stretches as in_turn's, but those of production are told again every minute."""
+    records, time = [], 0
+    for code, length in stretches:
+        end = time + hours(length)
+        records += [(module, code, at) for at in range(time, end, MINUTE if code in (REGULAR, REWORK) else end - time)]
+        time = end
+    assert time == WEEK
+    return records
+
+
+def minutes_units():
+    """Each day of five, 1 ms ahead of the second shift and at the start of the third at module 0, and early in the first at module 1."""
+    units = []
+    for day in range(0, 5 * DAY, DAY):
+        units.append((1, 4, day + 3 * HOUR, 100, 99))
+        if day > 0:
+            units.append((1, 5, day + 3 * HOUR, 40, 40))
+        units.append((0, 3, day + 8 * HOUR - 1, 280, 277))
+        units += [(0, 3, day + 16 * HOUR, 250, 250), (0, 4, day + 16 * HOUR, 60, 57)]
+    return units
+
+
+def minutes():
+    """Its controller tells the code of production every minute and has no record left. Its schedule states the standards of two recipes each shift."""
+    states = by_time(*(each_minute(module, stretches) for module, stretches in enumerate(MINUTES_STRETCHES)))
+    assert len(states) == 6_000
+    shifts = range(0, WEEK, 8 * HOUR)
+    standards = [(0, 3, start, (80 if 2 * DAY <= start < 3 * DAY else 90) * SECOND) for start in shifts]
+    standards += [(0, 4, 0, 90 * SECOND)] + [(1, 4, start, 90 * SECOND) for start in shifts] + [(1, 5, DAY, 60 * SECOND)]
+    return log(WEEK, 2, states, standards, minutes_units())
+
+
+def minutes_packed():
+    """The same week without the records that say nothing new."""
+    states = []
+    for day in range(0, 5 * DAY, DAY):
+        states += [(0, REGULAR, day), (1, REGULAR, day), (1, NO_PRODUCT, day + 235 * MINUTE), (0, REWORK, day + 7 * HOUR),
+                   (0, REGULAR, day + 9 * HOUR), (0, NO_PRODUCT, day + 16 * HOUR), (0, UNWORKED_SHIFT, day + 21 * HOUR),
+                   (1, UNWORKED_SHIFT, day + 21 * HOUR)]
+    states += [(1, PREVENTIVE, 6 * DAY), (1, UNWORKED_SHIFT, 6 * DAY + 4 * HOUR)]
+    standards = [(0, 3, 0, 90 * SECOND), (0, 3, 2 * DAY, 80 * SECOND), (0, 3, 3 * DAY, 90 * SECOND), (0, 4, 0, 90 * SECOND),
+                 (1, 4, 0, 90 * SECOND), (1, 5, DAY, 60 * SECOND)]
+    return log(WEEK, 2, states, standards, minutes_units())
+
+
 SAMPLES = {
     "case-w": case_w,
     "r1-1": r1_1,
@@ -287,6 +340,8 @@ SAMPLES = {
     "monday": lambda: log(*MONDAY),
     "tuesday": lambda: log(*TUESDAY),
     "two-days": lambda: log(*joined(MONDAY, TUESDAY)),
+    "minutes": minutes,
+    "minutes-packed": minutes_packed,
     # One for each number from 2 to 16.
     "refused-period": lambda: shift(period=367 * DAY),
     "refused-modules": lambda: shift(modules=65),
