@@ -53,13 +53,6 @@ fn of_second(refusal: Refusal) -> Refusal {
     }
 }
 
-fn put_header(header: &mut [u8], period: u64, modules: u64, [states, standards, units]: [u64; 3]) {
-    let front = period << 29 | modules << 22 | states << 8 | standards >> 3;
-    let back = front << 16 | (standards & 7) << 13 | units;
-    header[..8].copy_from_slice(&front.to_be_bytes());
-    header[2..].copy_from_slice(&back.to_be_bytes());
-}
-
 fn put_states(list: &mut [u8], one: &Lists, two: &Lists) {
     let (front, back) = list.split_at_mut(one.states.len());
     front.copy_from_slice(one.states);

@@ -63,6 +63,61 @@ pub fn halves() -> [Vec<u8>; 2] {
     })
 }
 
+/// Two logs to pack, as long as the longest: of the records of one a few say something new, of the other all of them.
+pub fn to_pack() -> Vec<Variant> {
+    vec![
+        Variant {
+            name: "longest, one record of 32 new",
+            log: longest_told(32),
+        },
+        Variant {
+            name: "longest, every record new",
+            log: longest_told(1),
+        },
+    ]
+}
+
+/// The longest log, of whose records once in so many turns one says something new: of a module, another code; of a module's
+/// recipe, another time.
+fn longest_told(turns: u64) -> Vec<u8> {
+    let rng = &mut Prng::new(6, turns);
+    let mut draft = Draft {
+        period: LONGEST_PERIOD,
+        modules: MOST_MODULES,
+        ..Draft::default()
+    };
+    let mut codes = [0; MOST_MODULES as usize];
+    (0..MOST_MODULES).for_each(|module| draft.state(module, 0, 0));
+    let steps = MOST_STATES - MOST_MODULES;
+    for step in 1..=steps {
+        let module = rng.below(MOST_MODULES);
+        let code = &mut codes[module as usize];
+        if rng.once_in(turns) {
+            // Productive every other time.
+            *code = if *code < 6 {
+                rng.between(6, 23)
+            } else {
+                rng.below(6)
+            };
+        }
+        draft.state(module, *code, step * (LONGEST_PERIOD / (steps + 1)));
+    }
+    let mut time = 100_000;
+    for standard in 0..MOST_STANDARDS {
+        let (module, revision) = (standard / 8, standard % 8);
+        if rng.once_in(turns) {
+            time += 1;
+        }
+        draft.standard(module, 7, revision * 64_000_000, time);
+    }
+    for _ in 0..MOST_UNITS {
+        let (module, time) = (rng.below(MOST_MODULES), rng.below(LONGEST_PERIOD));
+        unit(rng, &mut draft, module, 7, time);
+    }
+    draft.sort();
+    draft.bytes()
+}
+
 /// State records by time; the modules open productive and are productive most of the time.
 fn state_records(rng: &mut Prng, draft: &mut Draft, count: u64) {
     (0..draft.modules).for_each(|module| draft.state(module, 0, 0));

@@ -1,12 +1,11 @@
 //! Measures a whole report (verdict and bytes) of each log: the library, (a) the plain program that
 //! walks the standards and (b) the best by hand; then the supplemental figures of each log: the
-//! library alone; then the longest log written call by call, and joined from two halves: the library
-//! and by hand. Each time is the best of many repetitions.
+//! library alone; then the longest log written call by call, joined from two halves, and packed: the
+//! library and by hand. Each time is the best of many repetitions.
 
-use bench::joining;
-use bench::logs::{halves, variants, Variant};
+use bench::logs::{halves, to_pack, variants, Variant};
 use bench::writing::{Calls, BY_HAND};
-use bench::{sorted, walk};
+use bench::{joining, packing, sorted, walk};
 use difftest::draft::packed;
 use difftest::library;
 use difftest::oracle::read;
@@ -39,7 +38,7 @@ const LIBRARY: Calls = Calls {
 };
 
 fn main() -> ExitCode {
-    if reports() && supplemental() && writing() && joining() {
+    if reports() && supplemental() && writing() && joining() && packing() {
         ExitCode::SUCCESS
     } else {
         ExitCode::FAILURE
@@ -213,6 +212,67 @@ fn join_alike(first: &[u8], second: &[u8]) -> bool {
             .all(|(first, second)| matches!(same(first, second, length), Some(Err(_))))
 }
 
+/// A packed log's length, or the refusal.
+type Pack = fn(&mut [u8]) -> Result<usize, Refusal>;
+
+const PACKS: [Pack; 2] = [pack, packing::pack];
+
+fn pack(buffer: &mut [u8]) -> Result<usize, Refusal> {
+    let (mut length, mut refusal) = ([0], [0; 3]);
+    let (start, size) = (buffer.as_mut_ptr(), buffer.len());
+    let answered = unsafe { c::tl_pack(start, size, &mut length, &mut refusal) };
+    let [number, list, place] = refusal;
+    match answered {
+        1 => Ok(length[0] as usize),
+        _ => Err(Refusal {
+            number,
+            list,
+            place,
+        }),
+    }
+}
+
+/// A row for each log packed; whether the programs answer alike. Ahead of each packing, apart from its time, the log is put back.
+fn packing() -> bool {
+    println!("microseconds for packing           library  by hand   lib/by hand");
+    for Variant { name, log } in to_pack() {
+        if !pack_alike(&log) {
+            println!("{name}: the programs do not pack it alike");
+            return false;
+        }
+        let packs = PACKS.map(|pack| move |buffer: &mut [u8]| pack(buffer).unwrap_or(0));
+        let put_back = |buffer: &mut [u8]| buffer.copy_from_slice(&log);
+        let [ours, by_hand] = in_turns_from(put_back, &mut log.clone(), packs);
+        println!(
+            "{name:<33} {ours:>8.2} {by_hand:>8.2} {:>13.3}",
+            ours / by_hand
+        );
+    }
+    true
+}
+
+/// Do both pack the log, and what comes of it, to the same bytes? Do they refuse it alike with its last bit set, without its first
+/// byte or with one behind it, and leave the buffer?
+fn pack_alike(log: &[u8]) -> bool {
+    let same = |log: &[u8]| {
+        let [ours, by_hand] = PACKS.map(|pack| {
+            let mut buffer = log.to_vec();
+            (pack(&mut buffer), buffer)
+        });
+        (ours == by_hand).then_some(ours)
+    };
+    let Some((Ok(length), packed)) = same(log) else {
+        return false;
+    };
+    let once = &packed[..length];
+    let spoilt = [&log[..log.len() - 1], &[log[log.len() - 1] | 1]].concat();
+    let longer = [log, &[0]].concat();
+    same(once) == Some((Ok(length), once.to_vec()))
+        && [&spoilt[..], &log[1..], &longer]
+            .iter()
+            .all(|log| matches!(same(log), Some((Err(_), left)) if left == *log))
+}
+
 /// Do all three make the same report?
 fn agree(variant: &Variant) -> bool {
     let reports = PROGRAMS.map(|program| {
@@ -228,19 +288,33 @@ fn in_turns<const N: usize>(
     buffer: &mut [u8],
     programs: [impl Fn(&mut [u8]) -> usize; N],
 ) -> [f64; N] {
+    in_turns_from(|_| (), buffer, programs)
+}
+
+/// The same, where the buffer is prepared for each repetition, in no program's time.
+fn in_turns_from<const N: usize>(
+    prepare: impl Fn(&mut [u8]),
+    buffer: &mut [u8],
+    programs: [impl Fn(&mut [u8]) -> usize; N],
+) -> [f64; N] {
     let mut best = [Duration::MAX; N];
     for _ in 0..TURNS {
         for (best, program) in best.iter_mut().zip(&programs) {
-            *best = (*best).min(best_of_a_turn(buffer, program));
+            *best = (*best).min(best_of_a_turn(&prepare, buffer, program));
         }
     }
     best.map(|best| best.as_nanos() as f64 / 1_000.0)
 }
 
-fn best_of_a_turn(buffer: &mut [u8], program: impl Fn(&mut [u8]) -> usize) -> Duration {
+fn best_of_a_turn(
+    prepare: impl Fn(&mut [u8]),
+    buffer: &mut [u8],
+    program: impl Fn(&mut [u8]) -> usize,
+) -> Duration {
     let mut best = Duration::MAX;
     let begin = Instant::now();
     while begin.elapsed() < TURN {
+        prepare(buffer);
         let start = Instant::now();
         black_box(program(black_box(&mut *buffer)));
         best = best.min(start.elapsed());

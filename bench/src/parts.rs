@@ -1,4 +1,4 @@
-//! What both plain programs share: header, state records, standards and the printed report.
+//! What the plain programs share: header, state records, standards and the printed report.
 
 use difftest::records::*;
 
@@ -85,6 +85,19 @@ pub fn split(log: &[u8]) -> Result<Lists<'_>, Refusal> {
         standards: &log[states_end as usize..standards_end as usize],
         units: &log[standards_end as usize..units_end as usize],
     })
+}
+
+/// Writes a header of ten bytes, with the counts of the three lists.
+pub fn put_header(
+    header: &mut [u8],
+    period: u64,
+    modules: u64,
+    [states, standards, units]: [u64; 3],
+) {
+    let front = period << 29 | modules << 22 | states << 8 | standards >> 3;
+    let back = front << 16 | (standards & 7) << 13 | units;
+    header[..8].copy_from_slice(&front.to_be_bytes());
+    header[2..].copy_from_slice(&back.to_be_bytes());
 }
 
 /// The records of a list. Its length is a multiple of N.

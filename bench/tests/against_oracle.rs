@@ -1,12 +1,14 @@
 //! Both plain programs answer what the oracle answers, on every log of the generator, and the calls by hand on its runs. Joining
-//! by hand makes the log that the records of two make, put together here.
+//! by hand makes the log that the records of two make, put together here, and packing by hand the one of the records that are
+//! kept here.
 
 use bench::writing::BY_HAND;
-use bench::{joining, logs, sorted, walk};
+use bench::{joining, logs, packing, sorted, walk};
 use difftest::draft::Draft;
 use difftest::generator::make;
 use difftest::generator::runs::{self, Position};
 use difftest::oracle::{account, read};
+use difftest::prng::Prng;
 use difftest::records::*;
 use difftest::writing::add;
 use std::collections::{BTreeMap, BTreeSet};
@@ -316,5 +318,144 @@ fn on_each_list_at_its_bound_joined() {
             assert_eq!(compare_joined(&first, &second), (number, 0));
             assert_eq!(compare_joined(&second, &first), (number, 0));
         }
+    }
+}
+
+/// What packing leaves in a buffer that the log fills, or the refusal: each record is held against the latest one ahead of it of
+/// its module, or of its module and recipe.
+fn packed(log: &[u8]) -> Result<Draft, Refusal> {
+    account(log)?;
+    let mut draft = Draft::of(read(log).expect("an accepted log"));
+    let states = draft.states.clone();
+    let standards = draft.standards.clone();
+    draft.states.clear();
+    draft.standards.clear();
+    for (place, it) in states.iter().enumerate() {
+        let ahead = &states[..place];
+        let before = ahead.iter().rfind(|other| other.module == it.module);
+        if before.map(|before| before.code) != Some(it.code) {
+            draft.states.push(*it);
+        }
+    }
+    for (place, it) in standards.iter().enumerate() {
+        let ahead = &standards[..place];
+        let own = |other: &&Standard| (other.module, other.recipe) == (it.module, it.recipe);
+        let before = ahead.iter().rfind(own);
+        if before.map(|before| before.theoretical) != Some(it.theoretical) {
+            draft.standards.push(*it);
+        }
+    }
+    Ok(draft)
+}
+
+/// Packs a log by hand, once and again, and in a buffer that is longer. How many state records and standards were dropped, or the
+/// number of the refusal.
+fn compare_packed(log: &[u8]) -> Result<[usize; 2], u64> {
+    let mut buffer = log.to_vec();
+    let answer = packing::pack(&mut buffer);
+    let draft = match packed(log) {
+        Ok(draft) => draft,
+        Err(refusal) => {
+            assert_eq!(answer, Err(refusal), "{log:02x?}");
+            assert!(buffer == log, "{log:02x?}");
+            return Err(refusal.number);
+        }
+    };
+    let due = draft.bytes();
+    assert_eq!(answer, Ok(due.len()), "{log:02x?}");
+    assert!(buffer[..due.len()] == due, "{log:02x?}");
+    assert!(
+        buffer[due.len()..].iter().all(|&byte| byte == 0),
+        "{log:02x?}"
+    );
+    let mut again = due.clone();
+    assert_eq!(packing::pack(&mut again), Ok(due.len()), "{log:02x?}");
+    assert!(again == due, "{log:02x?}");
+    assert_eq!(
+        account(&due).map(|it| it.report()),
+        account(log).map(|it| it.report())
+    );
+    let longer = [log, &[0]].concat();
+    let mut buffer = longer.clone();
+    assert_eq!(packing::pack(&mut buffer), Err(Refusal::of_log(5)));
+    assert!(buffer == longer);
+    let before = read(log).expect("an accepted log").header;
+    let [states, standards, _] = draft.counts();
+    Ok([before.states - states, before.standards - standards].map(|dropped| dropped as usize))
+}
+
+/// The log of the same records and of some that tell their code or their time again, a little later.
+fn told_again(rng: &mut Prng, log: &[u8]) -> Vec<u8> {
+    let mut draft = Draft::of(read(log).expect("an accepted log"));
+    for it in draft.states.clone() {
+        if rng.once_in(2) {
+            draft.state(it.module, it.code, it.time + rng.between(1, 3));
+        }
+    }
+    for it in draft.standards.clone() {
+        if rng.once_in(2) {
+            draft.standard(
+                it.module,
+                it.recipe,
+                it.start + rng.between(1, 3),
+                it.theoretical,
+            );
+        }
+    }
+    draft.sort();
+    draft.states.dedup_by_key(|it| (it.time, it.module));
+    draft
+        .standards
+        .dedup_by_key(|it| (it.module, it.recipe, it.start));
+    draft.bytes()
+}
+
+/// Each log, and each accepted one with records told again.
+#[test]
+fn on_the_generators_logs_packed() {
+    let rng = &mut Prng::new(16, 0);
+    let mut refused: BTreeSet<u64> = BTreeSet::new();
+    let (mut states, mut standards, mut neither) = (0, 0, 0);
+    for index in 0..LOGS / 5 {
+        let log = make(13, index).bytes;
+        let mut logs = vec![log.clone()];
+        if account(&log).is_ok() {
+            logs.push(told_again(rng, &log));
+        }
+        for log in logs {
+            match compare_packed(&log) {
+                Err(number) => _ = refused.insert(number),
+                Ok([0, 0]) => neither += 1,
+                Ok([of_states, of_standards]) => {
+                    states += usize::from(of_states > 0);
+                    standards += usize::from(of_standards > 0);
+                }
+            }
+        }
+    }
+    assert_eq!(
+        Vec::from_iter(refused),
+        Vec::from_iter((1..=16).chain([19]))
+    );
+    assert!(
+        states > 1_000 && standards > 1_000 && neither > 100,
+        "{states} {standards} {neither}"
+    );
+}
+
+#[test]
+fn on_the_measured_logs_packed() {
+    let measured = logs::to_pack();
+    let dropped: Vec<[usize; 2]> = measured
+        .iter()
+        .map(|variant| {
+            assert_eq!(variant.log.len(), 63_130);
+            compare_packed(&variant.log).expect(variant.name)
+        })
+        .collect();
+    assert!(dropped[0][0] > 5_500 && dropped[0][1] > 400, "{dropped:?}");
+    assert_eq!(dropped[1], [0, 0]);
+    for variant in logs::variants() {
+        assert!(compare_packed(&variant.log).is_ok(), "{}", variant.name);
     }
 }
