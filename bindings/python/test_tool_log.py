@@ -153,6 +153,12 @@ CALLS = (
 )
 
 
+def call_pack(buffer):
+    """What the packing call itself answers and makes of a length and a refusal of sevens."""
+    length, refusal = tool_log._Length(7), tool_log._Refusal(7, 7, 7)
+    return tool_log._pack(tool_log._lent(buffer), len(buffer), length, refusal), length[0], (*refusal,)
+
+
 class Case(unittest.TestCase):
     def refused(self, number, list, place, call, *arguments):
         with self.assertRaises(Refused) as caught:
@@ -175,6 +181,7 @@ class Calls(Case):
         self.refused(1, 0, 0, join_logs, b"", log)
         own = bytearray(log)
         self.refused(number, list, place, pack_log_in_place, own)
+        self.assertEqual(call_pack(own), (0, 7, (number, list, place)))
         self.assertEqual(own, log)
 
     def test_report(self):
@@ -1110,6 +1117,7 @@ class Packing(Case):
         buffer = bytearray(log)
         self.assertEqual(pack_log_in_place(buffer), len(due))
         self.assertEqual(buffer, due + bytes(len(log) - len(due)))
+        self.assertEqual(call_pack(bytearray(due)), (1, len(due), (0, 0, 0)))
 
     def packed_is(self, records, due):
         """The log of these records is packed to that of `due`, which is packed already, and both answer alike."""

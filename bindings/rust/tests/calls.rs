@@ -207,7 +207,15 @@ fn turned_back(log: &[u8], ground: Ground, list: List, place: u64) {
     assert_eq!(pack_log(log), Err(why));
     let mut own = log.to_vec();
     assert_eq!(pack_log_in_place(&mut own), Err(why));
+    assert_eq!(call_pack(&mut own), (0, 7, [why.ground as u64, why.list as u64, place]));
     assert!(own == log);
+}
+
+// What the packing call itself answers and makes of a length and a refusal of sevens.
+fn call_pack(buf: &mut [u8]) -> (u32, u64, [u64; 3]) {
+    let (mut length, mut refusal) = ([7], [7; 3]);
+    let flag = unsafe { c::tl_pack(buf.as_mut_ptr(), buf.len(), &mut length, &mut refusal) };
+    (flag, length[0], refusal)
 }
 
 #[test]
@@ -1096,6 +1104,7 @@ fn packs(log: &[u8], due: &[u8]) {
         let mut buf = log.to_vec();
         assert_eq!(pack_log_in_place(&mut buf).map(|packed| packed.len()), Ok(due.len()));
         assert!(buf == [due, &vec![0; log.len() - due.len()]].concat());
+        assert_eq!(call_pack(&mut buf[..due.len()]), (1, due.len() as u64, [0; 3]));
     }
     assert!(module_count(log) == module_count(due) && report(log) == report(due));
     for m in 0..module_count(log).unwrap() {
