@@ -1090,22 +1090,24 @@ static void sums_stay(struct span log, struct span packed, size_t modules)
     CHECK(length[0] > 0 && length[0] == length[1] && !memcmp(printed[0], printed[1], length[0]));
 }
 
-/* The log is packed to `due`, which is packed already. In a longer buffer it is refused, whatever is behind it. */
+/* The log is packed to `due`, which is packed already. With a byte behind it that counts as its own it is refused; one that does not stays. */
 static void packed_is(struct span log, struct span due, size_t modules)
 {
     uint8_t *longer = calloc(log.length + 1, 1);
-    uint64_t length[1] = {9}, why[3];
+    uint64_t length[1], why[3];
 
     packs(log, due);
     packs(due, due);
     sums_stay(log, due, modules);
     if (!longer)
         abort();
-    memcpy(longer, log.bytes, log.length);
     for (int last = 0; last < 256; last += 255) {
+        memcpy(longer, log.bytes, log.length);
         longer[log.length] = (uint8_t)last;
+        length[0] = 9;
         CHECK(tl_pack(longer, log.length + 1, length, why) == 0 && is(why, TL_BAD_LENGTH, 0, 0) && length[0] == 9);
         CHECK(!memcmp(longer, log.bytes, log.length) && longer[log.length] == last);
+        CHECK(tl_pack(longer, log.length, length, why) == 1 && length[0] == due.length && longer[log.length] == last);
     }
     free(longer);
 }

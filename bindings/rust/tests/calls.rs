@@ -1157,12 +1157,14 @@ fn packed_shift() {
     keeps(&log, 6, 5);
     assert_eq!(credited_units(&log.log()).unwrap()[..9], [10, 20, 40, 3, 50, 7, 1, 2, 0]);
     assert_eq!(credited_units(&packed.log()).unwrap()[..6], [70, 3, 50, 7, 3, 0]);
-    // In a longer buffer it is refused, whatever is behind it.
+    // In a longer buffer it is refused, whatever is behind it; in its own, what is behind that stays.
     for behind in [&[0][..], &[0xa5], &[0; 1000], &log.log()] {
         let longer = [&log.log(), behind].concat();
         let mut buf = longer.clone();
         assert_eq!(pack_log_in_place(&mut buf), Err(Refusal { ground: Ground::Length, list: List::None, place: 0 }));
         assert!(buf == longer);
+        let (own, rest) = buf.split_at_mut(log.log().len());
+        assert!(pack_log_in_place(own).is_ok_and(|own| own == packed.log()) && rest == behind);
     }
 }
 
