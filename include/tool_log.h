@@ -1,7 +1,7 @@
 /*
  * tool_log.h: the packed log of a semiconductor tool, answered: state times, the quantities, efficiencies, losses and supplemental figures of SEMI
- * E79, which standards its units were judged by, and the shift report; written, record by record; joined from two consecutive ones; and packed, without
- * the records that say nothing new.
+ * E79, which standards its units were judged by, and the shift report; written, record by record; joined from two consecutive ones; and rid of the
+ * records that say nothing new.
  *
  * Link libtool_log_c.a (x86-64 Linux). It needs nothing but C's memcpy, memmove and memset.
  *

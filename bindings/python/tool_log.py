@@ -1,10 +1,9 @@
 """The packed log of a semiconductor tool, answered: state times, the quantities, efficiencies, losses and supplemental figures of SEMI E79, which
-standards its units were judged by, and the shift report; written; joined from two consecutive ones; and packed, without the records that say nothing
-new.
+standards its units were judged by, and the shift report; written; joined from two consecutive ones; and rid of the records that say nothing new.
 
 A log, and its benchmarks, are any bytes-like object. Each call answers numbers, text or bytes, or raises Refused. Times are whole milliseconds.
-A module is counted from 0. write_log makes a log of its records, Writer makes it record by record, join_logs makes it of two logs, pack_log makes it
-of a longer one, and pack_benchmarks makes benchmarks.
+A module is counted from 0. write_log makes a log of its records, Writer makes it record by record, join_logs makes it of two logs, pack_log of one that
+repeats itself, and pack_benchmarks makes benchmarks.
 The shared object libtool_log.so stands beside this file; the environment's TOOL_LOG_LIBRARY names another.
 """
 

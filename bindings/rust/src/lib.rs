@@ -1,9 +1,8 @@
 //! The packed log of a semiconductor tool, answered: state times, the quantities, efficiencies, losses and supplemental figures of SEMI E79, which
-//! standards its units were judged by, and the shift report; written; joined from two consecutive ones; and packed, without the records that say
-//! nothing new.
+//! standards its units were judged by, and the shift report; written; joined from two consecutive ones; and rid of the records that say nothing new.
 //!
 //! Every function takes any bytes as a log, or as benchmarks, and answers or refuses. Times are whole milliseconds. A module is counted from 0. A
-//! [`Writer`] makes a log record by record, [`join_logs`] makes it of two logs, and [`pack_log`] makes it of a longer one.
+//! [`Writer`] makes a log record by record, [`join_logs`] makes it of two logs, and [`pack_log`] of one that repeats itself.
 
 pub mod c;
 
