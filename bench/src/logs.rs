@@ -93,12 +93,10 @@ fn longest_told(turns: u64) -> Vec<u8> {
         let module = rng.below(MOST_MODULES);
         let code = &mut codes[module as usize];
         if rng.once_in(turns) {
-            // Productive every other time.
-            *code = if *code < 6 {
-                rng.between(6, 23)
-            } else {
-                rng.below(6)
-            };
+            let before = *code;
+            while *code == before {
+                *code = any_code(rng);
+            }
         }
         draft.state(module, *code, step * (LONGEST_PERIOD / (steps + 1)));
     }
@@ -124,12 +122,17 @@ fn state_records(rng: &mut Prng, draft: &mut Draft, count: u64) {
     let steps = count - draft.modules;
     for step in 1..=steps {
         let module = rng.below(draft.modules);
-        let code = if rng.once_in(3) {
-            rng.below(24)
-        } else {
-            rng.below(6)
-        };
+        let code = any_code(rng);
         draft.state(module, code, step * (draft.period / (steps + 1)));
+    }
+}
+
+/// Productive most of the time.
+fn any_code(rng: &mut Prng) -> u64 {
+    if rng.once_in(3) {
+        rng.below(24)
+    } else {
+        rng.below(6)
     }
 }
 
