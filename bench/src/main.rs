@@ -129,6 +129,19 @@ fn writing() -> bool {
     true
 }
 
+/// A length, or the refusal, by what a call of the library answered.
+fn length_or(answered: u32, length: [u64; 1], refusal: [u64; 3]) -> Result<usize, Refusal> {
+    let [number, list, place] = refusal;
+    match answered {
+        1 => Ok(length[0] as usize),
+        _ => Err(Refusal {
+            number,
+            list,
+            place,
+        }),
+    }
+}
+
 /// A joined log's length, or the refusal.
 type Join = fn(&[u8], &[u8], &mut [u8]) -> Result<usize, Refusal>;
 
@@ -148,15 +161,7 @@ fn join(first: &[u8], second: &[u8], buffer: &mut [u8]) -> Result<usize, Refusal
             &mut refusal,
         )
     };
-    let [number, list, place] = refusal;
-    match answered {
-        1 => Ok(length[0] as usize),
-        _ => Err(Refusal {
-            number,
-            list,
-            place,
-        }),
-    }
+    length_or(answered, length, refusal)
 }
 
 /// A row for the longest log joined from two halves; whether the programs answer alike.
@@ -221,15 +226,7 @@ fn pack(buffer: &mut [u8]) -> Result<usize, Refusal> {
     let (mut length, mut refusal) = ([0], [0; 3]);
     let (start, size) = (buffer.as_mut_ptr(), buffer.len());
     let answered = unsafe { c::tl_pack(start, size, &mut length, &mut refusal) };
-    let [number, list, place] = refusal;
-    match answered {
-        1 => Ok(length[0] as usize),
-        _ => Err(Refusal {
-            number,
-            list,
-            place,
-        }),
-    }
+    length_or(answered, length, refusal)
 }
 
 /// A row for each log packed; whether the programs answer alike. Ahead of each packing, apart from its time, the log is put back.

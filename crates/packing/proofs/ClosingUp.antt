@@ -4,35 +4,35 @@
 use mathlib.Core.Path.{◌≡◌, refl, sym, ap, ◌∙◌}
 use mathlib.Core.Bool.{Bool, true, false, cond}
 use mathlib.Core.List.{List, [], ◌++◌, append_assoc, append-nil}
-use Prim.Native.Nat.{ℕ, ◌+◌, ◌-◌, ◌≤◌}
+use Prim.Native.Nat.{ℕ, ◌+◌, ◌≤◌}
 use native.Mathlib.Nat.{add-zero}
 use native.Mathlib.Omega.{arith}
 use lib.ListN.{length, take, drop, length-append, length-drop}
-use lib.Seq.{length-take-le, drop-drop}
-use Rattle.std.specs.List.{copy_within}
+use Rattle.std.proofs.lemmas.List.{get_or-drop}
+use lib.Seq.{length-take-le}
 use Rattle.filling.specs.Buffer.{written}
 use Rattle.filling.proofs.Written.{written_length, written_behind, written_through}
-use Rattle.packing.specs.Closing.{Moved, Closed}
+use Rattle.records.specs.Covers.{Covers}
+use Rattle.rules.specs.SameRecords.{Bytes}
+use Rattle.packing.specs.Closing.{Moveable, Moved, Closed}
+use Rattle.packing.proofs.Words.{further, copied}
 
 -- nothing read yet
 pub closed-none : (b : List ℕ) (to p : ℕ) → to ≤ p → Closed b to [] p to b
 closed-none b to p h = record { next = sym (add-zero to); through = sym (append-nil (take to b)); behind = refl; order = h; size = refl }
 
--- what is behind a place is behind each later one
-pub further : (b d : List ℕ) (p q : ℕ) → p ≤ q → drop p d ≡ drop p b → drop q d ≡ drop q b
-further b d p q h e =
-    let to : p + (q - p) ≡ q = omega arith in
-    ap (λ (k : ℕ). drop k d) (sym to) ∙ sym (drop-drop (q - p) p d) ∙ ap (drop (q - p)) e ∙ drop-drop (q - p) p b ∙ ap (λ (k : ℕ). drop k b) to
-
--- n bytes copied towards the front
-copied : (d : List ℕ) (from n to : ℕ) → from + n ≤ length d → copy_within d from (from + n) to ≡ written d to (take n (drop from d))
-unfolding written
-copied d from n to h =
-    let long : length (take n (drop from d)) ≡ n = length-take-le n (drop from d) (omega (arith, length-drop from d)) in
-    let few : from + n - from ≡ n = omega arith in
-    rw (few, long) (append_assoc (take to d) (take n (drop from d)) (drop (to + n) d))
-
 module _ {b d : List ℕ} {to p r : ℕ} {xs : List ℕ} (c : Closed b to xs p r d) where
+  -- the next n bytes may move to where what is left ends
+  pub closed_moveable : (n : ℕ) → Bytes b → 10 ≤ p → Covers b (p + n) → Moveable d p n r
+  closed_moveable n small ahead there =
+      record {
+        small = rw c.behind (λ k. rw (get_or-drop p b k 0) (small (p + k)));
+        order = c.order;
+        ahead = ahead;
+        inside = omega (arith, there.0, c.size);
+        short = omega (arith, there.1, c.size);
+      }
+
   -- one more record of n bytes
   pub closed-more : (n : ℕ) (drops : Bool) (q : ℕ) (e : List ℕ) → p + n ≤ length b → Moved drops d p n r q e → Closed b to (xs ++ cond drops [] (take n (drop p b))) (p + n) q e
   closed-more n true q e h m =

@@ -29,7 +29,8 @@ use Rattle.packed.specs.Packed.{packed_log, packed_bytes}
 use Rattle.packed.proofs.PackedLog.{writable}
 use Rattle.packing.specs.Closing.{Closed}
 use Rattle.packing.specs.Passes.{states_left, standards_left, all_units}
-use Rattle.packing.proofs.ClosingUp.{further, closed-then}
+use Rattle.packing.proofs.Words.{further}
+use Rattle.packing.proofs.ClosingUp.{closed-then}
 use Rattle.packing.proofs.Passing.{record-kept}
 
 -- ---- a list read behind what is closed up

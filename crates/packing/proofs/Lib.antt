@@ -1,3 +1,4 @@
+pub mod Words
 pub mod ClosingUp
 pub mod Passing
 pub mod Finishing
