@@ -34,17 +34,33 @@ pub fn writes<T>(
     room: usize,
     call: impl FnOnce(&mut [u8]) -> T,
 ) -> (T, Option<WrongByte>) {
-    let mut due: Vec<u8> = (0..room + 2 * MARGIN)
-        .map(|at| (at * 31 + room) as u8)
-        .collect();
-    let mut lent = due.clone();
-    due[MARGIN..MARGIN + bytes.len()].copy_from_slice(bytes);
-    let answer = call(&mut lent[MARGIN..MARGIN + room]);
+    let before: Vec<u8> = (0..room).map(|at| (at * 31 + room) as u8).collect();
+    let mut due = before.clone();
+    due[..bytes.len()].copy_from_slice(bytes);
+    leaves(&before, &due, 0, call)
+}
+
+/// What a call answers that has to leave these bytes where others were, so many bytes behind a margin of the usual length, and nothing else on their two sides;
+/// and the first byte that differs.
+pub fn leaves<T>(
+    before: &[u8],
+    due: &[u8],
+    offset: usize,
+    call: impl FnOnce(&mut [u8]) -> T,
+) -> (T, Option<WrongByte>) {
+    let margin = |length: usize| (0..length).map(|at| (at * 31 + before.len()) as u8);
+    let front = MARGIN + offset;
+    let between = |bytes: &[u8]| -> Vec<u8> {
+        let bytes = bytes.iter().copied();
+        margin(front).chain(bytes).chain(margin(MARGIN)).collect()
+    };
+    let (due, mut lent) = (between(due), between(before));
+    let answer = call(&mut lent[front..front + before.len()]);
     let wrong = match due == lent {
         true => None,
         false => (0..due.len()).find(|&at| due[at] != lent[at]),
     };
-    let wrong = wrong.map(|at| (at as isize - MARGIN as isize, due[at], lent[at]));
+    let wrong = wrong.map(|at| (at as isize - front as isize, due[at], lent[at]));
     (answer, wrong)
 }
 

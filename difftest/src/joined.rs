@@ -3,7 +3,7 @@
 use crate::credited::Credited;
 use crate::oracle::{account, Account, Log};
 use crate::records::*;
-use crate::writing::add;
+use crate::writing::written;
 
 /// An accepted log, its sums and the actual units credited to each of its standards.
 pub struct Accepted {
@@ -132,34 +132,6 @@ fn place_in_list(standard: &Standard) -> (u64, u64, u64) {
     (standard.module, standard.recipe, standard.start)
 }
 
-/// The bytes of a log, written record by record as R-2 has it.
-fn written(log: &Log) -> Vec<u8> {
-    let Header {
-        period,
-        modules,
-        states,
-        standards,
-        units,
-    } = log.header;
-    let mut records = vec![Record::Header([period, modules, states, standards, units])];
-    let states = log.states.iter();
-    records.extend(states.map(|it| Record::State([it.module, it.code, it.time])));
-    let standards = log.standards.iter();
-    records.extend(
-        standards.map(|it| Record::Standard([it.module, it.recipe, it.start, it.theoretical])),
-    );
-    let units = log.units.iter();
-    records.extend(
-        units.map(|it| Record::Unit([it.module, it.recipe, it.time, it.actual, it.effective])),
-    );
-    let mut bytes = vec![0xff; records.iter().map(Record::length).sum()];
-    let end = records.iter().fold(0, |position, record| {
-        add(&mut bytes, position, record).expect("values that fit, and room for them")
-    });
-    assert_eq!(end, bytes.len());
-    bytes
-}
-
 impl Joined<'_> {
     /// All state times and quantities are the two logs' added, module by module, and so is the length but for one header.
     fn keeps_sums(&self) {
@@ -179,7 +151,11 @@ impl Joined<'_> {
         let due = added(tools.map(|it| it.state_times));
         assert_eq!(tool.state_times, due, "the tool's state times not added");
         let due = added(tools.map(|it| it.quantities.array()));
-        assert_eq!(tool.quantities.array(), due, "the tool's quantities not added");
+        assert_eq!(
+            tool.quantities.array(),
+            due,
+            "the tool's quantities not added"
+        );
         let [first, second] = of_both.map(|log| log.bytes.len());
         assert_eq!(self.log.bytes.len(), first + second - 10, "another length");
     }

@@ -1,6 +1,6 @@
 //! R-2, writing logs, with the standards of R-5, in plain Rust, written to be read beside them and not to be fast.
 
-use crate::oracle::{account, Account};
+use crate::oracle::{account, Account, Log};
 use crate::records::*;
 
 /// What an adding call hands back, the next writing position, and what it leaves in the buffer; or the refusal, which leaves the buffer as it was.
@@ -28,6 +28,34 @@ pub fn finish(buffer: &[u8], position: usize) -> Result<Account, Refusal> {
         return Err(Refusal::of_log(18));
     }
     account(&buffer[..position])
+}
+
+/// The bytes of a log, written record by record as R-2 has it.
+pub fn written(log: &Log) -> Vec<u8> {
+    let Header {
+        period,
+        modules,
+        states,
+        standards,
+        units,
+    } = log.header;
+    let mut records = vec![Record::Header([period, modules, states, standards, units])];
+    let states = log.states.iter();
+    records.extend(states.map(|it| Record::State([it.module, it.code, it.time])));
+    let standards = log.standards.iter();
+    records.extend(
+        standards.map(|it| Record::Standard([it.module, it.recipe, it.start, it.theoretical])),
+    );
+    let units = log.units.iter();
+    records.extend(
+        units.map(|it| Record::Unit([it.module, it.recipe, it.time, it.actual, it.effective])),
+    );
+    let mut bytes = vec![0xff; records.iter().map(Record::length).sum()];
+    let end = records.iter().fold(0, |position, record| {
+        add(&mut bytes, position, record).expect("values that fit, and room for them")
+    });
+    assert_eq!(end, bytes.len());
+    bytes
 }
 
 /// Does the record end in the buffer? No position is so great that its end would wrap.
