@@ -79,3 +79,19 @@ pub fn same<T: Debug + PartialEq>(what: &str, due: &T, found: &T) -> Result<(), 
     }
     Ok(())
 }
+
+/// What differs of a call that writes a log into a buffer and answers its length, where this log is due, or a refusal: verdict, length, and the byte found wrong.
+pub fn same_written(
+    due: &Result<&[u8], Refusal>,
+    answer: &Answer<[u64; 1]>,
+    wrong: Option<WrongByte>,
+) -> Vec<String> {
+    let length = due.map_or(UNTOUCHED, |bytes| bytes.len() as u64);
+    let wrong = wrong.map(|(byte, due, found)| (format!("byte {byte}"), due, found));
+    let compared = [
+        same_verdict(due, answer),
+        same("length", &length, &answer.values[0]),
+        wrong.map_or(Ok(()), |(what, due, found)| same(&what, &due, &found)),
+    ];
+    compared.into_iter().filter_map(Result::err).collect()
+}

@@ -58,17 +58,7 @@ impl<'a> Comparison<'a> {
         verdict: &'a Result<Account, Refusal>,
         middle: usize,
     ) -> Comparison<'a> {
-        let mut comparison = Comparison {
-            log,
-            verdict,
-            report: verdict
-                .as_ref()
-                .map(Account::report)
-                .map_err(|refusal| *refusal),
-            differences: Vec::new(),
-            short_buffers: 0,
-            short_listings: 0,
-        };
+        let mut comparison = Comparison::without_askings(log, verdict);
         for room in comparison.rooms() {
             comparison.verdict_with_room(room);
             comparison.report_in(room);
@@ -81,6 +71,30 @@ impl<'a> Comparison<'a> {
             comparison.losses(whose);
         }
         comparison
+    }
+
+    /// What the log of another one's verdict answers: the report, and state times and quantities of every module and of the tool.
+    pub fn of_packed(log: &'a [u8], verdict: &'a Result<Account, Refusal>) -> Comparison<'a> {
+        let mut comparison = Comparison::without_askings(log, verdict);
+        comparison.report_in(LARGE_ROOM);
+        for whose in comparison.all() {
+            comparison.sums(whose);
+        }
+        comparison
+    }
+
+    fn without_askings(log: &'a [u8], verdict: &'a Result<Account, Refusal>) -> Comparison<'a> {
+        Comparison {
+            log,
+            verdict,
+            report: verdict
+                .as_ref()
+                .map(Account::report)
+                .map_err(|refusal| *refusal),
+            differences: Vec::new(),
+            short_buffers: 0,
+            short_listings: 0,
+        }
     }
 
     /// The supplemental figures with the log's slice of this number, which the call has to leave as it is.
@@ -253,6 +267,16 @@ impl<'a> Comparison<'a> {
     }
 
     fn sums_and_figures(&mut self, whose: Whose) {
+        self.sums(whose);
+        self.compare_figures(
+            &format!("figures of {whose:?}"),
+            self.expected_sums(whose)
+                .map(|sums| figures(&sums.quantities)),
+            library::figures(self.log, whose),
+        );
+    }
+
+    fn sums(&mut self, whose: Whose) {
         let expected = self.expected_sums(whose);
         self.compare_numbers(
             &format!("state times of {whose:?}"),
@@ -263,11 +287,6 @@ impl<'a> Comparison<'a> {
             &format!("quantities of {whose:?}"),
             expected.map(|sums| sums.quantities.array()),
             library::quantities(self.log, whose),
-        );
-        self.compare_figures(
-            &format!("figures of {whose:?}"),
-            expected.map(|sums| figures(&sums.quantities)),
-            library::figures(self.log, whose),
         );
     }
 

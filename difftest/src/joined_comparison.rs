@@ -1,6 +1,6 @@
 //! Compares what a call that joins two logs answers and leaves with the oracle.
 
-use crate::answer::{lent, same, same_verdict, writes, Answer, UNTOUCHED};
+use crate::answer::{lent, same_written, writes, Answer};
 use crate::joined::Joined;
 use crate::records::Refusal;
 use std::collections::BTreeSet;
@@ -42,16 +42,13 @@ impl JoinComparison {
             let (answer, wrong) = writes(due.unwrap_or_default(), room, |buffer| {
                 call(first, second, buffer)
             });
-            let length = due.map_or(UNTOUCHED, |bytes| bytes.len() as u64);
-            let wrong = wrong.map(|(byte, due, found)| (format!("byte {byte}"), due, found));
-            let compared = [
-                same_verdict(&due, &answer),
-                same("length", &length, &answer.values[0]),
-                wrong.map_or(Ok(()), |(what, due, found)| same(&what, &due, &found)),
+            let unchanged = [
                 unchanged("first", first == logs[0]),
                 unchanged("second", second == logs[1]),
             ];
-            let differences = compared.into_iter().filter_map(Result::err);
+            let changed = unchanged.into_iter().filter_map(Result::err);
+            let differences = same_written(&due, &answer, wrong);
+            let differences = differences.into_iter().chain(changed);
             let told = differences.map(|what| format!("join with room {room}: {what}"));
             comparison.differences.extend(told);
         }

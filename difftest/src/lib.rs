@@ -13,6 +13,7 @@ pub mod joins;
 pub mod losses;
 pub mod oracle;
 pub mod packed;
+pub mod packed_comparison;
 pub mod prng;
 pub mod records;
 pub mod said;
