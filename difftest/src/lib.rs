@@ -14,6 +14,7 @@ pub mod losses;
 pub mod oracle;
 pub mod packed;
 pub mod packed_comparison;
+pub mod packings;
 pub mod prng;
 pub mod records;
 pub mod said;
