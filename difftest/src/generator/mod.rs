@@ -1,5 +1,5 @@
 //! Makes logs from a seed: valid ones of every shape and damaged ones of every kind; runs of calls that write them, lookups in
-//! them, benchmarks for them, and pairs of logs to join.
+//! them, benchmarks for them, pairs of logs to join, and logs to pack.
 
 mod bars;
 pub mod benchmarks;
@@ -7,6 +7,7 @@ mod faults;
 pub mod lookups;
 pub mod pairs;
 mod raw;
+pub mod repeats;
 mod revisions;
 pub mod runs;
 mod sequences;

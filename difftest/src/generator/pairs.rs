@@ -149,7 +149,10 @@ fn next_day(rng: &mut Prng, first: &Draft, most: u64) -> Draft {
     standards(rng, &mut next, first, room[1]);
     next.sort();
     let tries = rng.below(24);
-    units(rng, &mut next, room[2].min(tries));
+    units(rng, &mut next, room[2].min(tries), |rng, start, last| {
+        let anywhere = edge_or_between(rng, start, last);
+        rng.pick(&[0, start, last, anywhere])
+    });
     next
 }
 
@@ -214,8 +217,13 @@ fn standards(rng: &mut Prng, next: &mut Draft, first: &Draft, room: u64) {
     }
 }
 
-/// Up to so many unit records that the production time has room for: at time 0, at a start, in the last ms, or anywhere.
-fn units(rng: &mut Prng, draft: &mut Draft, most: u64) {
+/// Up to so many unit records that the production time has room for, each at a time that is drawn by a start and the period's last ms.
+pub(super) fn units(
+    rng: &mut Prng,
+    draft: &mut Draft,
+    most: u64,
+    drawn: impl Fn(&mut Prng, u64, u64) -> u64,
+) {
     let mut room = production_times(draft);
     let mut units = BTreeMap::new();
     for _ in 0..most {
@@ -228,9 +236,7 @@ fn units(rng: &mut Prng, draft: &mut Draft, most: u64) {
             start,
             ..
         } = rng.pick(&draft.standards);
-        let last = draft.period - 1;
-        let anywhere = edge_or_between(rng, start, last);
-        let time = rng.pick(&[0, start, last, anywhere]);
+        let time = drawn(rng, start, draft.period - 1);
         let Some(theoretical) = in_force(draft, module, recipe, time) else {
             continue;
         };
@@ -363,7 +369,7 @@ fn fill(rng: &mut Prng, drafts: &mut [Draft; 2], list: usize, sum: u64) {
 }
 
 /// As many state records, each added one in the code that its module has at that time.
-fn add_states(rng: &mut Prng, draft: &mut Draft, due: u64) {
+pub(super) fn add_states(rng: &mut Prng, draft: &mut Draft, due: u64) {
     let mut codes = vec![BTreeMap::new(); draft.modules as usize];
     for state in &draft.states {
         codes[state.module as usize].insert(state.time, state.code);
@@ -406,7 +412,7 @@ fn add_standards(rng: &mut Prng, draft: &mut Draft, due: u64) {
 }
 
 /// As many unit records, each added one of no units, by a standard from time 0 on that is added first where there is none.
-fn add_units(rng: &mut Prng, draft: &mut Draft, due: u64) {
+pub(super) fn add_units(rng: &mut Prng, draft: &mut Draft, due: u64) {
     if draft.counts()[2] == due {
         return;
     }
