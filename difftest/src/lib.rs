@@ -20,6 +20,7 @@ pub mod records;
 pub mod said;
 pub mod supplemental;
 pub mod tally;
+pub mod tiny;
 pub mod writing;
 
 #[cfg(feature = "library")]
