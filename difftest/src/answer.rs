@@ -50,9 +50,11 @@ pub fn leaves<T>(
 ) -> (T, Option<WrongByte>) {
     let margin = |length: usize| (0..length).map(|at| (at * 31 + before.len()) as u8);
     let front = MARGIN + offset;
-    let between = |bytes: &[u8]| -> Vec<u8> {
-        let bytes = bytes.iter().copied();
-        margin(front).chain(bytes).chain(margin(MARGIN)).collect()
+    let between = |bytes: &[u8]| {
+        let mut all: Vec<u8> = margin(front).collect();
+        all.extend_from_slice(bytes);
+        all.extend(margin(MARGIN));
+        all
     };
     let (due, mut lent) = (between(due), between(before));
     let answer = call(&mut lent[front..front + before.len()]);

@@ -41,14 +41,7 @@ impl PackComparison {
         number: u64,
         call: Call,
     ) -> PackComparison {
-        let mut comparison = PackComparison {
-            call,
-            offset: (number % 8) as usize,
-            differences: Vec::new(),
-            left: None,
-            longer: 0,
-            shorter: 0,
-        };
+        let mut comparison = PackComparison::without_calls(number, call);
         let left = comparison.pack("pack", log, packed);
         if let (Some((packed, buffer)), Ok(account)) = (left, verdict) {
             comparison.again(&packed, &buffer);
@@ -61,6 +54,24 @@ impl PackComparison {
             comparison.beside(log, &buffer);
         }
         comparison
+    }
+
+    /// What differs where a log is packed that says what another one says, which is packed to these bytes.
+    pub fn alike(log: &[u8], packed: &[u8], number: u64, call: Call) -> Vec<String> {
+        let mut comparison = PackComparison::without_calls(number, call);
+        comparison.call("pack of a log that says the same", log, Ok(packed));
+        comparison.differences
+    }
+
+    fn without_calls(number: u64, call: Call) -> PackComparison {
+        PackComparison {
+            call,
+            offset: (number % 8) as usize,
+            differences: Vec::new(),
+            left: None,
+            longer: 0,
+            shorter: 0,
+        }
     }
 
     /// The log that was left is packed, and with the zeros behind it it is none.

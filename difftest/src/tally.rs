@@ -3,6 +3,7 @@
 use crate::credited::{Credited, InForce, Lookup, LOOKUPS, SHAPES};
 use crate::joins::Joins;
 use crate::oracle::Account;
+use crate::packings::Packings;
 use crate::records::*;
 use crate::supplemental::Supplemental;
 use std::cmp::Ordering;
@@ -126,6 +127,7 @@ pub struct Tally {
     too_wide_alone: BTreeMap<(u64, usize), u64>,
     pub finishing: Verdicts,
     pub joins: Joins,
+    pub packings: Packings,
 }
 
 impl Tally {

@@ -14,11 +14,15 @@ fn the_oracle_answers_what_the_generator_expects() {
         let expected = made.expected;
         assert!(
             expected.agrees(&verdict),
-            "log {number}: {expected:?}, {:?}", verdict.err()
+            "log {number}: {expected:?}, {:?}",
+            verdict.err()
         );
         if let Some(alike) = made.alike {
             let other = Packed::of(&alike, &account(&alike)).expect("an accepted log");
-            assert!(packed.expect("an accepted log").bytes == other.bytes, "log {number}");
+            assert!(
+                packed.expect("an accepted log").bytes == other.bytes,
+                "log {number}"
+            );
         }
     }
     print!("{packings}");

@@ -1,5 +1,5 @@
 //! Compares the linked library with the oracle on the generator's logs, with lookups in them, with benchmarks for them, on runs
-//! of calls that write them, and on pairs of logs to join.
+//! of calls that write them, on pairs of logs to join, and on logs to pack.
 //!
 //! harness SEED COUNT
 
@@ -8,14 +8,18 @@ use difftest::arguments::two_numbers;
 use difftest::comparison::{shown, Comparison};
 use difftest::credited::{look_up, Credited};
 use difftest::generator::pairs::{self, Pair};
+use difftest::generator::repeats::{self, ToPack};
 use difftest::generator::{benchmarks, lookups, make, runs, Expected};
 use difftest::joined::{join, join_three, Accepted, Joined};
 use difftest::joined_comparison::{self, JoinComparison};
 use difftest::library;
 use difftest::oracle::{account, Account};
+use difftest::packed::Packed;
+use difftest::packed_comparison::PackComparison;
 use difftest::records::Refusal;
 use difftest::supplemental::{answer, Judged};
 use difftest::tally::Tally;
+use difftest::tiny;
 use difftest::writing_comparison::first_difference;
 use std::process::ExitCode;
 
@@ -24,6 +28,10 @@ const SHOWN_DIFFERENCES: u64 = 8;
 
 /// With one log in so many comes a pair.
 const PAIR_ONCE_IN: u64 = 2;
+
+/// With one log in so many comes one to pack, and the packed log of one of so many of these is tried as any other log.
+const REPEATS_ONCE_IN: u64 = 2;
+const PACKED_TRIED_ONCE_IN: u64 = 32;
 
 /// A refused log is joined with the last accepted one up to so many bytes, ahead of it and behind it.
 const LONGEST_PARTNER: usize = 2_000;
@@ -84,7 +92,19 @@ fn main() -> ExitCode {
             let bytes = format!("pair {number}, first {first}, second {second}");
             tell("pair with log", lines, &bytes);
         }
+        if index % REPEATS_ONCE_IN == 1 {
+            let number = index / REPEATS_ONCE_IN;
+            let made = repeats::make(seed, number);
+            let lines = of_repeats(seed, number, &made, &mut tally);
+            let bytes = format!("repeats {number}, {}", shown(&made.bytes));
+            tell("repeats with log", lines, &bytes);
+        }
     }
+    let tiny = tiny::search(&tiny::SMALL, library::pack);
+    for line in tiny.differences.iter().take(SHOWN_DIFFERENCES as usize) {
+        println!("tiny logs: {line}");
+    }
+    differences += tiny.differences.len() as u64;
     print!("{tally}");
     println!(
         "refused 18 list 0: {} verdicts on a short buffer",
@@ -109,6 +129,12 @@ fn main() -> ExitCode {
         "joined in both groupings: {} times three logs",
         tally.joins.triples
     );
+    print!("{}", tally.packings);
+    print!("{}", tally.packings.with_buffers());
+    println!(
+        "tiny logs, all of a few ms: {} packed, which say {} things",
+        tiny.logs, tiny.said
+    );
     let all_met = [
         never_met("by a log", &tally.never_met_with_buffers()),
         never_met("by a bar", &tally.never_met_in_losses()),
@@ -121,11 +147,13 @@ fn main() -> ExitCode {
         never_met("by an adding call", &tally.never_met_in_adding()),
         never_met("by a finishing call", &tally.never_met_in_finishing()),
         never_met("by a join", &tally.joins.never_met_with_buffers()),
+        never_met("by packing", &tally.packings.never_met_with_buffers()),
     ]
     .iter()
     .all(|missed| !missed);
     let pairs = tally.joins.pairs();
-    println!("{count} logs and {pairs} pairs of logs compared, {differences} differences");
+    let packings = tally.packings.logs();
+    println!("{count} logs and {pairs} pairs of logs compared, {packings} logs packed, {differences} differences");
     ExitCode::from(u8::from(differences > 0 || !all_met))
 }
 
@@ -161,6 +189,57 @@ fn of_log(
         }
     }
     lines.extend(comparison.differences);
+    let (_, differences) = of_packing(index, log, verdict, false, tally);
+    lines.extend(differences);
+    lines
+}
+
+/// What a log is packed to, and the differences. Whether its records repeat is for the tally of those that are refused.
+fn of_packing(
+    number: u64,
+    log: &[u8],
+    verdict: &Result<Account, Refusal>,
+    repeats: bool,
+    tally: &mut Tally,
+) -> (Result<Packed, Refusal>, Vec<String>) {
+    let packed = Packed::of(log, verdict);
+    tally.packings.count(log, &packed, repeats);
+    let comparison = PackComparison::of(log, verdict, &packed, number, library::pack);
+    tally.packings.longer += comparison.longer;
+    tally.packings.shorter += comparison.shorter;
+    let mut lines = comparison.differences;
+    if let Some(left) = comparison.left {
+        let of_left = Comparison::of_packed(&left, verdict, number as usize).differences;
+        lines.extend(of_left.into_iter().map(|it| format!("packed log: {it}")));
+    }
+    (packed, lines)
+}
+
+/// The differences of a log to pack. Of some the packed log is compared as any other.
+fn of_repeats(seed: u64, number: u64, made: &ToPack, tally: &mut Tally) -> Vec<String> {
+    let (log, verdict) = (&made.bytes, account(&made.bytes));
+    let (packed, mut lines) = of_packing(number, log, &verdict, made.repeats, tally);
+    if !made.expected.agrees(&verdict) {
+        lines.push(unexpected(&made.expected));
+    }
+    let Ok(packed) = packed else {
+        return lines;
+    };
+    if let Some(alike) = &made.alike {
+        tally.packings.alike += 1;
+        lines.extend(PackComparison::alike(
+            alike,
+            &packed.bytes,
+            number,
+            library::pack,
+        ));
+    }
+    if number % PACKED_TRIED_ONCE_IN == 1 {
+        tally.packings.tried += 1;
+        // What these logs have is no shape of the generator's, so it is not counted.
+        let of_packed = of_log(seed, number, &packed.bytes, &verdict, &mut Tally::default());
+        lines.extend(of_packed.into_iter().map(|it| format!("packed log: {it}")));
+    }
     lines
 }
 

@@ -23,7 +23,7 @@ pub struct ToPack {
 }
 
 /// Of so many logs the first ones have full lists, each in its way.
-const FULL_IN_TURN: u64 = 500;
+const FULL_IN_TURN: u64 = 1_000;
 
 const MINUTE: u64 = 60_000;
 
