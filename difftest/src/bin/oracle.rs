@@ -1,11 +1,13 @@
 //! Reads one log from standard input and prints its report, its state times, its quantities, its losses, its credited units or, with
-//! the benchmarks of a file, its supplemental figures, or writes out the log that is joined of it and of a second one, in a file; or the refused line.
+//! the benchmarks of a file, its supplemental figures, or writes out the log that is joined of it and of a second one, in a file, or the log that it is packed to;
+//! or the refused line.
 //!
-//! oracle [times|quantities|losses|credited|supplemental BENCHMARKS|join SECOND]
+//! oracle [times|quantities|losses|credited|supplemental BENCHMARKS|join SECOND|pack]
 
 use difftest::credited::Credited;
 use difftest::joined::{join, Accepted};
 use difftest::oracle::account;
+use difftest::packed::Packed;
 use difftest::supplemental::{supplemental, text};
 use std::io::{Read, Write};
 
@@ -24,6 +26,7 @@ fn main() -> std::io::Result<()> {
         }
         ["join", second] => join(&Accepted::of(&log), &Accepted::of(&std::fs::read(second)?))
             .map(|joined| joined.log.bytes),
+        ["pack"] => Packed::of(&log, &account(&log)).map(|packed| packed.bytes),
         _ => account(&log).map(|account| account.report()),
     };
     let text = answer.unwrap_or_else(|refusal| refusal.line().into_bytes());

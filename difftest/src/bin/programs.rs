@@ -1,12 +1,14 @@
-//! Compares what the program `toollog` prints with the oracle on the generator's logs, with benchmarks for them, and what it makes of pairs of logs.
+//! Compares what the program `toollog` prints with the oracle on the generator's logs, with benchmarks for them, what it makes of pairs of logs,
+//! and what of logs to pack.
 //!
 //! programs SEED COUNT TOOLLOG
 
 use difftest::arguments::two_numbers;
 use difftest::credited::Credited;
-use difftest::generator::{benchmarks, make, pairs};
+use difftest::generator::{benchmarks, make, pairs, repeats};
 use difftest::joined::{join, Accepted};
 use difftest::oracle::{account, Account};
+use difftest::packed::Packed;
 use difftest::records::{Refusal, BENCHMARKS, SECOND};
 use difftest::supplemental::{answer, text, words, Judged};
 use difftest::tally::Tally;
@@ -84,15 +86,44 @@ fn main() -> ExitCode {
         let before = (index % 2 == 0).then_some(&b"old"[..]);
         let (printed, same) = files.join(&program, logs, input, before, &joined);
         compare("join", same, printed);
+
+        let made = repeats::make(seed, index);
+        let packed = Packed::of(&made.bytes, &account(&made.bytes));
+        tally.packings.count(&made.bytes, &packed, made.repeats);
+        let place = PLACES[index as usize % PLACES.len()];
+        let (printed, same) = files.pack(&program, &made.bytes, place, &packed);
+        compare(&format!("pack {place:?}"), same, printed);
     }
-    let never_met = [tally.never_met_in_reading(), tally.joins.never_answered()].concat();
+    let never_met = [
+        tally.never_met_in_reading(),
+        tally.joins.never_answered(),
+        tally.packings.never_answered(),
+    ]
+    .concat();
     let all_met = never_met.is_empty();
     if !all_met {
         println!("never met: {never_met:?}");
     }
-    println!("{count} logs, each by six subcommands of toollog, and as many pairs, {differences} differences");
+    println!("{count} logs, each by six subcommands of toollog, as many pairs, and as many logs to pack, {differences} differences");
     ExitCode::from(u8::from(differences > 0 || !all_met))
 }
+
+/// Where a log to pack is, and where its result goes.
+#[derive(Clone, Copy, Debug, PartialEq)]
+enum Place {
+    IntoANewFile,
+    IntoAnOldFile,
+    IntoItsOwnFile,
+    FromStandardInput,
+}
+
+const PLACES: [Place; 5] = [
+    Place::IntoANewFile,
+    Place::IntoItsOwnFile,
+    Place::IntoAnOldFile,
+    Place::IntoItsOwnFile,
+    Place::FromStandardInput,
+];
 
 /// What it prints with bytes on standard input, of which it may leave some unread.
 fn run(program: &str, arguments: &[&str], input: &[u8]) -> Output {
@@ -167,11 +198,7 @@ impl Files {
         before: Option<&[u8]>,
         due: &Result<Vec<u8>, Refusal>,
     ) -> (Output, bool) {
-        let result = self.path("result");
-        let _ = fs::remove_file(&result);
-        if let Some(before) = before {
-            fs::write(&result, before).expect("a file that can be written");
-        }
+        let result = self.result(before);
         let files = [("first", first), ("second", second)];
         let (printed, names) = self.run(program, "join", files, input, Some(&result));
         let prints = match due {
@@ -191,10 +218,44 @@ impl Files {
                 printed.stdout == refusal.line().as_bytes() && says(&printed.stderr, name, &told)
             }
         };
-        let left = fs::read(&result).ok();
         let due = due.as_deref().ok().or(before);
-        let beside = fs::exists(format!("{result}.new")).is_ok_and(|is_there| !is_there);
-        (printed, prints && left.as_deref() == due && beside)
+        (printed, prints && holds(&result, due))
+    }
+
+    /// A file for a result, which holds this before, or is not there.
+    fn result(&self, before: Option<&[u8]>) -> String {
+        let result = self.path("result");
+        let _ = fs::remove_file(&result);
+        if let Some(before) = before {
+            fs::write(&result, before).expect("a file that can be written");
+        }
+        result
+    }
+
+    /// What `toollog pack` prints of a log, and whether it prints and leaves what is due.
+    fn pack(
+        &self,
+        program: &str,
+        log: &[u8],
+        place: Place,
+        packed: &Result<Packed, Refusal>,
+    ) -> (Output, bool) {
+        let own = self.path("log");
+        fs::write(&own, log).expect("a file that can be written");
+        let (before, result) = match place {
+            Place::IntoItsOwnFile => (Some(log), own.clone()),
+            Place::IntoANewFile => (None, self.result(None)),
+            _ => (Some(&b"old"[..]), self.result(Some(b"old"))),
+        };
+        let (printed, name) = match place {
+            Place::FromStandardInput => (run(program, &["pack", "-", &result], log), INPUT),
+            _ => (run(program, &["pack", &own, &result], &[]), &own[..]),
+        };
+        let text = packed.as_ref().map(|it| it.text(log.len()));
+        let prints = prints(&printed, name, &text.map_err(|refusal| *refusal));
+        let due = packed.as_ref().map_or(before, |it| Some(&it.bytes[..]));
+        let unchanged = place == Place::IntoItsOwnFile || holds(&own, Some(log));
+        (printed, prints && holds(&result, due) && unchanged)
     }
 }
 
@@ -202,6 +263,13 @@ impl Drop for Files {
     fn drop(&mut self) {
         let _ = fs::remove_dir_all(&self.folder);
     }
+}
+
+/// Whether a file holds what is due, or is not there, and none is left beside it.
+fn holds(result: &str, due: Option<&[u8]>) -> bool {
+    let left = fs::read(result).ok();
+    let beside = fs::exists(format!("{result}.new")).is_ok_and(|is_there| !is_there);
+    left.as_deref() == due && beside
 }
 
 /// The text and nothing on standard error, or the refused line and the reason, which names what is refused.

@@ -1,13 +1,14 @@
-//! Runs the generator's logs, and as many pairs of logs to join, through the oracle alone: what it makes, and whether the oracle
+//! Runs the generator's logs, as many pairs of logs to join and as many logs to pack, through the oracle alone: what it makes, and whether the oracle
 //! answers what the generator expects.
 //!
 //! survey SEED COUNT
 
 use difftest::arguments::two_numbers;
 use difftest::credited::{look_up, Credited};
-use difftest::generator::{benchmarks, lookups, make, pairs};
+use difftest::generator::{benchmarks, lookups, make, pairs, repeats};
 use difftest::joined::{join, Accepted};
 use difftest::oracle::account;
+use difftest::packed::Packed;
 use difftest::supplemental::{answer, Judged};
 use difftest::tally::Tally;
 use std::process::ExitCode;
@@ -67,6 +68,16 @@ fn main() -> ExitCode {
             println!("pair {number}: expected {expected:?}, judged {refusal:?}");
         }
     }
+    for number in 0..count {
+        let made = repeats::make(seed, number);
+        let packed = Packed::of(&made.bytes, &account(&made.bytes));
+        tally.packings.count(&made.bytes, &packed, made.repeats);
+        if !made.expected.agrees(&packed) {
+            unexpected += 1;
+            let (expected, refusal) = (&made.expected, packed.err());
+            println!("log to pack {number}: expected {expected:?}, judged {refusal:?}");
+        }
+    }
     print!("{tally}");
     println!("longest accepted log: {accepted_bytes} bytes");
     print!("{}", tally.losses());
@@ -74,10 +85,12 @@ fn main() -> ExitCode {
     print!("{}", tally.lookups());
     print!("{}", tally.supplemental());
     print!("{}", tally.joins);
+    print!("{}", tally.packings);
     let never_met = [
         tally.never_met_in_reading(),
         tally.never_met_in_lookups(),
         tally.joins.never_met(),
+        tally.packings.never_met(),
     ]
     .concat();
     println!("never met: {never_met:?}; unexpected: {unexpected}");
