@@ -1,6 +1,6 @@
-//! Tests the tool-log library from outside: documents 01 and 02, as far as R-8, in plain Rust,
-//! apart from the library (`oracle`, `writing`, `supplemental`, `losses`, `credited`, `joined`), a seeded generator of logs, of
-//! runs of calls that write them, of lookups in them, of benchmarks and of pairs to join, and the comparison with the linked library.
+//! Tests the tool-log library from outside: documents 01 and 02, as far as R-9, in plain Rust,
+//! apart from the library (`oracle`, `writing`, `supplemental`, `losses`, `credited`, `joined`, `packed`), a seeded generator of logs, of
+//! runs of calls that write them, of lookups in them, of benchmarks, of pairs to join and of logs to pack, and the comparison with the linked library.
 
 pub mod answer;
 pub mod arguments;
