@@ -7,7 +7,7 @@ use crate::tally::{missed, Verdicts, OF_LOGS};
 use std::collections::BTreeMap;
 
 /// What of a log's state records shows what each is compared with.
-pub const OF_STATES: [&str; 27] = [
+pub const OF_STATES: [&str; 28] = [
     "a state record dropped next to its module's record before",
     "a state record dropped behind another module's of another code",
     "a state record kept behind another module's of its code",
@@ -35,6 +35,7 @@ pub const OF_STATES: [&str; 27] = [
     "openings alone kept of several records each",
     "several records of each module, none dropped",
     "a module's records all kept, and another's all dropped but its opening",
+    "a module of its opening alone, and another's records dropped",
 ];
 
 /// What of its standards does.
@@ -65,10 +66,11 @@ pub const OF_STANDARDS: [&str; 23] = [
 ];
 
 /// What of its lists does.
-pub const OF_LISTS: [&str; 18] = [
+pub const OF_LISTS: [&str; 19] = [
     "state records alone dropped, ahead of standards and units",
     "standards alone dropped, ahead of units",
     "both dropped, ahead of units",
+    "openings and one standard each kept of several records each",
     "nothing dropped",
     "no standards",
     "units moved by less than one of them has bytes",
@@ -347,6 +349,12 @@ impl Packed {
         let with_neighbour =
             |at: usize| neighbour(at).is_some_and(|ahead| ahead.time == list[at].time);
         let repeats = |at: usize| it.repeats(at);
+        let modules = self.of_modules();
+        let of_a_module = |is: fn(&[u64; 2]) -> bool| modules.iter().any(is);
+        let all_kept = of_a_module(|[dropped, kept]| *dropped == 0 && *kept > 1);
+        let opening_kept = of_a_module(|[dropped, kept]| *dropped > 0 && *kept == 1);
+        let opening_alone = modules.contains(&[0, 1]);
+        let dropped = of_a_module(|[dropped, _]| *dropped > 0);
         [
             it.any(|at| it.repeats(at) && it.behind(at, |before| before + 1 == at)),
             it.any(|at| it.repeats(at) && unlike_other(at)),
@@ -376,23 +384,18 @@ impl Packed {
             it.last_is(|at| it.changes(at) && it.behind(at, repeats)),
             it.first_alone_stay(),
             it.all_stay(),
-            self.of_two_modules(),
+            all_kept && opening_kept,
+            opening_alone && dropped,
         ]
     }
 
-    /// One module's records all stay, and of another's the opening alone, of several records each.
-    fn of_two_modules(&self) -> bool {
+    /// Of each module, how many state records are dropped and how many kept.
+    fn of_modules(&self) -> Vec<[u64; 2]> {
         let mut records = vec![[0; 2]; self.from.header.modules as usize];
         for (record, stays) in self.from.states.iter().zip(&self.stay.states) {
             records[record.module as usize][usize::from(*stays)] += 1;
         }
-        let all_kept = records
-            .iter()
-            .any(|[dropped, kept]| *dropped == 0 && *kept > 1);
-        let one_kept = records
-            .iter()
-            .any(|[dropped, kept]| *dropped > 0 && *kept == 1);
-        all_kept && one_kept
+        records
     }
 
     /// Which of `OF_STANDARDS` the log has.
@@ -466,12 +469,14 @@ impl Packed {
             header.standards == MOST_STANDARDS,
         ];
         let openings_alone = states + header.modules == MOST_STATES;
+        let openings = self.courses_of_states().first_alone_stay();
         let one_each = self.courses_of_standards().first_alone_stay();
         let some = some_states || some_standards;
         [
             some_states && !some_standards && header.standards > 0 && with_units,
             !some_states && some_standards && with_units,
             some_states && some_standards && with_units,
+            openings && one_each,
             !some,
             header.standards == 0,
             some && moved < UNIT_BYTES && with_units,
