@@ -3,6 +3,7 @@
 //! No other log says the same. A record says its value in its own ms, so all codes and times of such a log are among those that are said; and of a set of
 //! records the rising sequence makes one log.
 
+use crate::answer::leaves;
 use crate::draft::Draft;
 use crate::oracle::{account, read};
 use crate::packed_comparison::Call;
@@ -114,12 +115,11 @@ impl Tried {
         call: Call,
     ) {
         let what = space.says(draft);
-        let mut buffer = log.clone();
-        let answer = call(&mut buffer);
-        buffer.truncate(answer.values[0] as usize);
-        let accepted = answer.answered == 1 && account(&buffer).is_ok();
-        let log_left = read(&buffer).ok().filter(|_| accepted);
-        let says = log_left.map(|left| space.says(&Draft::of(left)));
+        let buffer = left_by(call, &log).unwrap_or_default();
+        let left = account(&buffer).and_then(|_| read(&buffer)).ok();
+        let left = left.filter(|it| it.header.period == draft.period);
+        let left = left.filter(|it| it.header.modules == draft.modules);
+        let says = left.map(|left| space.says(&Draft::of(left)));
         if says.as_ref() != Some(&what) {
             self.differences.push(format!(
                 "{space:?}: {log:?} says {what:?} and is packed to {buffer:?}, which says {says:?}"
@@ -138,6 +138,18 @@ impl Tried {
             ));
         }
     }
+}
+
+/// What a call leaves of a log up to the length that it answers. On both sides there is room for what a wrong one writes there: that is compared elsewhere.
+fn left_by(call: Call, log: &[u8]) -> Option<Vec<u8>> {
+    let mut left = Vec::new();
+    let (answer, _) = leaves(log, log, 0, |lent| {
+        let answer = call(lent);
+        left = lent.to_vec();
+        answer
+    });
+    left.truncate(answer.values[0] as usize);
+    (answer.answered == 1).then_some(left)
 }
 
 /// The records of an accepted log.
