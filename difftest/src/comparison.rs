@@ -13,9 +13,6 @@ use std::fmt::Debug;
 const LARGE_ROOM: usize = 4_096;
 const LARGE_ROOM_OF_LISTING: usize = 8_192;
 
-/// Of packed logs of so many bytes not every module is asked for.
-const LONG: usize = 4_000;
-
 /// The longest bytes that a line of differences shows whole.
 const SHOWN_BYTES: usize = 2_000;
 
@@ -76,20 +73,11 @@ impl<'a> Comparison<'a> {
         comparison
     }
 
-    /// What a log answers that has another one's verdict: the report, and state times and quantities of every module and of the tool; of a long log not of
-    /// every module.
-    pub fn of_packed(
-        log: &'a [u8],
-        verdict: &'a Result<Account, Refusal>,
-        middle: usize,
-    ) -> Comparison<'a> {
+    /// What a log answers that has another one's verdict: the report, and state times and quantities of every module and of the tool.
+    pub fn of_packed(log: &'a [u8], verdict: &'a Result<Account, Refusal>) -> Comparison<'a> {
         let mut comparison = Comparison::without_askings(log, verdict);
         comparison.report_in(LARGE_ROOM);
-        let askings = match log.len() {
-            0..LONG => comparison.all(),
-            _ => comparison.askings(middle),
-        };
-        for whose in askings {
+        for whose in comparison.all() {
             comparison.sums(whose);
         }
         comparison

@@ -102,7 +102,7 @@ pub struct Packings {
     of_states: [u64; OF_STATES.len()],
     of_standards: [u64; OF_STANDARDS.len()],
     of_lists: [u64; OF_LISTS.len()],
-    /// Logs in which records repeat.
+    /// Logs that are refused and in which records repeat.
     repeating: Verdicts,
     turned_back: [u64; TURNED_BACK.len()],
     refused: u64,
@@ -120,7 +120,7 @@ fn add<const N: usize>(counts: &mut [u64; N], has: [bool; N]) {
 }
 
 impl Packings {
-    /// A log and what it is packed to, and whether its records repeat, as the generator knows of those it refuses too.
+    /// A log and what it is packed to, and whether its records repeat where it is refused, which the generator knows.
     pub fn count(&mut self, log: &[u8], packed: &Result<Packed, Refusal>, repeats: bool) {
         if repeats {
             self.repeating.count(packed);

@@ -30,7 +30,7 @@ const SHOWN_DIFFERENCES: u64 = 8;
 const PAIR_ONCE_IN: u64 = 2;
 
 /// With one log in so many comes one to pack, and the packed log of one of so many of these is tried as any other log.
-const REPEATS_ONCE_IN: u64 = 2;
+const REPEATS_ONCE_IN: u64 = 3;
 const PACKED_TRIED_ONCE_IN: u64 = 32;
 
 /// A refused log is joined with the last accepted one up to so many bytes, ahead of it and behind it.
@@ -96,8 +96,10 @@ fn main() -> ExitCode {
             let number = index / REPEATS_ONCE_IN;
             let made = repeats::make(seed, number);
             let lines = of_repeats(seed, number, &made, &mut tally);
-            let bytes = format!("repeats {number}, {}", shown(&made.bytes));
-            tell("repeats with log", lines, &bytes);
+            if !lines.is_empty() {
+                let bytes = format!("repeats {number}, {}", shown(&made.bytes));
+                tell("repeats with log", lines, &bytes);
+            }
         }
     }
     let tiny = tiny::search(&tiny::SMALL, library::pack);
@@ -194,7 +196,7 @@ fn of_log(
     lines
 }
 
-/// What a log is packed to, and the differences. Whether its records repeat is for the tally of those that are refused.
+/// What a log is packed to, and the differences. Whether the records of a refused one repeat is for the tally.
 fn of_packing(
     number: u64,
     log: &[u8],
@@ -209,7 +211,7 @@ fn of_packing(
     tally.packings.shorter += comparison.shorter;
     let mut lines = comparison.differences;
     if let Some(left) = comparison.left {
-        let of_left = Comparison::of_packed(&left, verdict, number as usize).differences;
+        let of_left = Comparison::of_packed(&left, verdict).differences;
         lines.extend(of_left.into_iter().map(|it| format!("packed log: {it}")));
     }
     (packed, lines)

@@ -16,7 +16,7 @@ use std::collections::{BTreeMap, BTreeSet};
 pub struct ToPack {
     pub bytes: Vec<u8>,
     pub expected: Expected,
-    /// Records repeat, or did ahead of the fault for which the log is refused.
+    /// Of a log that is refused: its records repeat, or did ahead of the fault.
     pub repeats: bool,
     /// Another log that says the same.
     pub alike: Option<Vec<u8>>,
@@ -48,7 +48,7 @@ fn accepted(draft: Draft) -> ToPack {
     ToPack {
         bytes: draft.bytes(),
         expected: Expected::Accepted,
-        repeats: repeats(&draft),
+        repeats: false,
         alike: None,
     }
 }
