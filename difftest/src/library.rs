@@ -190,15 +190,11 @@ pub fn join(first: &[u8], second: &[u8], buffer: &mut [u8]) -> Answer<[u64; 1]> 
     }
 }
 
-extern "C" {
-    fn tl_pack(buf: *mut u8, buf_len: usize, length: *mut [u64; 1], refusal: *mut [u64; 3]) -> u32;
-}
-
 /// Packs the log that the buffer holds; its new length.
 pub fn pack(buffer: &mut [u8]) -> Answer<[u64; 1]> {
     let (mut length, mut refusal) = ([UNTOUCHED; 1], [UNTOUCHED; 3]);
     let (start, room) = (buffer.as_mut_ptr(), buffer.len());
-    let answered = unsafe { tl_pack(start, room, &mut length, &mut refusal) };
+    let answered = unsafe { c::tl_pack(start, room, &mut length, &mut refusal) };
     Answer {
         answered,
         values: length,
