@@ -1,11 +1,10 @@
 // Bytes that move towards the front of a buffer. The caller owes that they are there.
-ghost use Rattle.std.specs.Prelude.{◌≡◌, ◌++◌, ◌+◌, ◌-◌, ◌^◌, ◌≤◌, ◌<◌, length, take, replicate};
+ghost use Rattle.std.specs.Prelude.{◌≡◌, ◌++◌, ◌+◌, ◌-◌, ◌≤◌, length, take, replicate};
 ghost use Rattle.std.specs.List.{copy_within};
-ghost use Rattle.rules.specs.SameRecords.{Bytes};
 ghost use Rattle.packing.specs.Closing.{Moveable, Moved};
 
-// Copies n bytes to `to`, word by word: what is read next is never ahead of what is written. std's `copy_within` goes byte by byte, and a word read across bytes
-// just written waits for them: with it the longest log took twice as long.
+// Copies n bytes to `to`, word by word: what is written is never ahead of what is read next. std's `copy_within` goes byte by byte, and a word that is read where
+// bytes were just written waits for them: by it the longest log took up to twice as long.
 fn copy_down(buf: &mut [u8], from: usize, n: usize, to: usize)
     requires { Moveable buf.old from n to }
     ensures { buf.new ≡ copy_within buf.old from (from + n) to }
@@ -19,7 +18,7 @@ fn copy_down(buf: &mut [u8], from: usize, n: usize, to: usize)
     filling::put_number(buf, to + 8 * words, n % 8, rest);
 }
 
-// Passes over the record of n bytes at `from`, or else copies it to `to`. Answers where the next one goes.
+// Passes over the record of n bytes at `from`, or else moves it to `to`, where it may be already. Answers where the next one goes.
 pub fn move_record(buf: &mut [u8], from: usize, n: usize, to: usize, drops: bool) -> usize
     requires { Moveable buf.old from n to }
     ensures { Moved drops buf.old from n to result buf.new }

@@ -5,7 +5,7 @@ mod closing;
 mod lines;
 mod passes;
 
-ghost use Rattle.std.specs.Prelude.{◌≡◌, ◌++◌, ◌-◌, ◌≤◌, length, take, replicate};
+ghost use Rattle.std.specs.Prelude.{◌≡◌, ◌++◌, ◌-◌, length, replicate};
 ghost use Rattle.records.specs.Log.{header_of};
 ghost use Rattle.rules.specs.Answers.{answer_of};
 ghost use Rattle.rules.specs.SameRecords.{Bytes};

@@ -1,5 +1,5 @@
 // One pass over each list of an accepted log, which closes up.
-ghost use Rattle.std.specs.Prelude.{◌≡◌, ℕ, suc, true, ◌+◌, ◌*◌, ◌≤◌, ◌<◌, List, length, get_or, eqb, slice_set};
+ghost use Rattle.std.specs.Prelude.{◌≡◌, suc, true, ◌+◌, ◌*◌, ◌≤◌, ◌<◌, get_or, eqb, slice_set};
 ghost use Rattle.records.specs.Covers.{Covers};
 ghost use Rattle.records.specs.Log.{state_at, standard_at, up_to};
 ghost use Rattle.records.specs.Whole.{standards_begin, units_begin, units_end};
@@ -22,7 +22,7 @@ fn repeats_code(current: &mut [usize; 64], r: StateRecord) -> bool
     old == r.code + 1
 }
 
-// The state records, up to as many as there are. Answers where the standards go.
+// So many state records. Answers where the standards go.
 pub fn close_states(buf: &mut [u8], states: usize) -> usize
     requires small { Bytes buf.old }
     requires there { Covers buf.old (10 + 6 * states) }
