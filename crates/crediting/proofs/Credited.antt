@@ -16,7 +16,7 @@ use Rattle.rules.specs.Credited.{credited_to, credits_of, units_of}
 use Rattle.rules.specs.Quantities.{sum_below}
 use Rattle.rules.specs.Verdict.{verdict}
 use Rattle.rules.proofs.InForce.{in_force_lem}
-use Rattle.rules.proofs.Judged.{unit_records-sound, none_judged, all_judged}
+use Rattle.rules.proofs.Judged.{passed, none_judged, all_judged}
 use Rattle.rules.proofs.LastInForce.{last_in_force_lem}
 use Rattle.rules.proofs.Risen.{lists-accepted, risen}
 use Rattle.rules.proofs.SumLaws.{sum_same}
@@ -41,7 +41,7 @@ module _ (s : List ℕ) (e : verdict s ≡ Ok tt) where
   unfolding decode credited_to
   in_all =
       let h = header_of s in
-      all_judged (standard_at s h) h.standards h.period h.modules (λ u. u.actual) (decode s).units (unit_records-sound h.period h.modules (decode s).standards (decode s).units (lists-accepted s e).units)
+      all_judged (standard_at s h) h.standards h.modules (λ u. u.actual) (decode s).units (passed h.modules (decode s).standards h.period (decode s).units (lists-accepted s e).units)
 
   past : (i : ℕ) → (header_of s).standards ≤ i → credited_to (decode s) i ≡ 0
   unfolding decode credited_to

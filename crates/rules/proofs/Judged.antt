@@ -24,6 +24,7 @@ use Rattle.rules.proofs.Booleans.{false-true}
 use Rattle.rules.specs.Lists.{Each}
 use Rattle.rules.specs.Sequence.{unit_key}
 use Rattle.rules.specs.Sound.{UnitSound}
+use Rattle.rules.proofs.Each.{each-so}
 use Rattle.rules.proofs.Sound.{list-local, unit-tests}
 use Rattle.rules.proofs.InForce.{in_force_lem}
 use Rattle.rules.proofs.SumLaws.{sum_same, sum-add, sum-each}
@@ -50,10 +51,21 @@ module _ (a k : ℕ) where
 
 -- ---- accepted unit records
 
--- each is of a module of the tool, and a standard is in force for it
 pub unit_records-sound : (period modules : ℕ) (ss : List Standard) (us : List UnitRecord) → unit_grounds period modules ss us ≡ Ok tt → Each (UnitSound period modules ss) us
 unfolding unit_grounds
 unit_records-sound period modules ss us e = list-local unit_key (unit_ground period modules ss) (UnitSound period modules ss) (unit-tests period modules ss) us e
+
+-- each is of a module of the tool, and a standard is in force for it: what the sums over them ask, and no more
+module _ (modules : ℕ) (ss : List Standard) where
+  pub record Judged (u : UnitRecord) : Type 0 where
+    pub own : u.«module» < modules
+    pub judged : is_none (in_force ss u.«module» u.recipe u.time) ≡ false
+
+  abbrev pub Passed : List UnitRecord → Type 0
+  Passed us = Each Judged us
+
+  pub passed : (period : ℕ) (us : List UnitRecord) → unit_grounds period modules ss us ≡ Ok tt → Passed us
+  passed period us e = each-so (UnitSound period modules ss) Judged (λ u h. record { own = h.own; judged = h.judged }) us (unit_records-sound period modules ss us e)
 
 -- ---- one unit record
 
@@ -95,9 +107,9 @@ module _ (at : ℕ → Standard) (n : ℕ) where
   none_judged units (u ∷ us) i h =
       rw (judge-listed u.«module» u.recipe u.time i (units u) (in_force listed u.«module» u.recipe u.time) (in_force_lem at u.«module» u.recipe u.time n) h) (zero-add (units_judged units listed us i) ∙ none_judged units us i h)
 
-  module _ (period modules : ℕ) (units : UnitRecord → ℕ) where
+  module _ (modules : ℕ) (units : UnitRecord → ℕ) where
     -- the judged units of all standards make the units of all unit records
-    pub all_judged : (us : List UnitRecord) → Each (UnitSound period modules listed) us → sum_below (units_judged units listed us) n ≡ units_of units us
+    pub all_judged : (us : List UnitRecord) → Passed modules listed us → sum_below (units_judged units listed us) n ≡ units_of units us
     unfolding units_judged judged_by units_of
     all_judged [] p = sum-each 0 n ∙ zero-mul n
     all_judged (u ∷ us) p =
@@ -109,7 +121,7 @@ module _ (at : ℕ → Standard) (n : ℕ) where
     whole [] = 0
     whole (u ∷ us) = units u * time_of (in_force listed u.«module» u.recipe u.time) + whole us
 
-    over-standards : (us : List UnitRecord) → Each (UnitSound period modules listed) us → sum_below (λ i. units_judged units listed us i * (at i).theoretical) n ≡ whole us
+    over-standards : (us : List UnitRecord) → Passed modules listed us → sum_below (λ i. units_judged units listed us i * (at i).theoretical) n ≡ whole us
     unfolding units_judged judged_by whole
     over-standards [] p = sum_same _ (λ i. 0) n (λ i l. zero-mul (at i).theoretical) ∙ sum-each 0 n ∙ zero-mul n
     over-standards (u ∷ us) p =
@@ -117,7 +129,7 @@ module _ (at : ℕ → Standard) (n : ℕ) where
         ∙ sym (sum-add _ (λ i. units_judged units listed us i * (at i).theoretical) n)
         ∙ ap₂ ◌+◌ (one_time u.«module» u.recipe u.time (units u) (in_force listed u.«module» u.recipe u.time) (in_force_lem at u.«module» u.recipe u.time n) p.0.judged) (over-standards us p.1)
 
-    over-modules : (us : List UnitRecord) → Each (UnitSound period modules listed) us → sum_below (theoretical_time units listed us) modules ≡ whole us
+    over-modules : (us : List UnitRecord) → Passed modules listed us → sum_below (theoretical_time units listed us) modules ≡ whole us
     unfolding theoretical_time credit whole
     over-modules [] p = sum-each 0 modules ∙ zero-mul modules
     over-modules (u ∷ us) p =
@@ -125,6 +137,6 @@ module _ (at : ℕ → Standard) (n : ℕ) where
         ∙ ap₂ ◌+◌ (once (units u * time_of (in_force listed u.«module» u.recipe u.time)) u.«module» modules p.0.own) (over-modules us p.1)
 
     -- judged units times their standards' times make the theoretical time of all modules
-    pub judged_time_lem : (us : List UnitRecord) → Each (UnitSound period modules listed) us
+    pub judged_time_lem : (us : List UnitRecord) → Passed modules listed us
         → sum_below (λ i. units_judged units listed us i * (at i).theoretical) n ≡ sum_below (theoretical_time units listed us) modules
     judged_time_lem us p = over-standards us p ∙ sym (over-modules us p)

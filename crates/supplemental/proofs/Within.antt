@@ -21,7 +21,7 @@ use Rattle.rules.specs.Quantities.{of_tool, effective_time}
 use Rattle.rules.specs.Verdict.{verdict}
 use Rattle.rules.proofs.Booleans.{or_left, or_right}
 use Rattle.rules.proofs.FirstGround.{then-left, then-right, not-met, first_all}
-use Rattle.rules.proofs.Judged.{unit_records-sound, judged_time_lem}
+use Rattle.rules.proofs.Judged.{passed, judged_time_lem}
 use Rattle.rules.proofs.Risen.{lists-accepted}
 use Rattle.rules.proofs.SumLaws.{sum_same, sum-le}
 use Rattle.benchmarks.specs.declared.Benchmark.{Benchmark}
@@ -65,7 +65,7 @@ module _ (s : List ℕ) (accepted : verdict s ≡ Ok tt) where
       let a = lists-accepted s accepted in
       rw (count_is s h refl)
       (sum_same _ _ h.standards (λ i l. ap (λ (t : ℕ). effective_judged log i * t) (time_is s h refl i l))
-      ∙ judged_time_lem (standard_at s h) h.standards log.period log.modules (λ u. u.effective) log.units (unit_records-sound log.period log.modules log.standards log.units a.units))
+      ∙ judged_time_lem (standard_at s h) h.standards log.modules (λ u. u.effective) log.units (passed log.modules log.standards log.period log.units a.units))
 
   module _ (at : ℕ → Benchmark) (tested : first_of (ground_at log at) (standards_in log) ≡ Ok tt) where
     each : (i : ℕ) → i < standards_in log → Within (time_at log i) (effective_judged log i) (at i)
