@@ -5,6 +5,7 @@ use mathlib.Core.Path.{◌≡◌, refl, sym, ◌∙◌}
 use Prim.Native.Nat.{ℕ, ◌<◌}
 use native.Mathlib.Omega.{arith}
 use lib.ListN.{length-replicate}
+use Rattle.std.specs.declared.result.Result.TheVariants.{Ok, Err}
 use Rattle.records.specs.Log.{state_at}
 use Rattle.states.proofs.Sums.{uptime-room}
 use Rattle.states.proofs.Pass.{states_none, held_none, refused_as, stopped, finish_start, finish_stop, ending_last, closed_sums, finish_more, finish_all}
@@ -14,11 +15,13 @@ pub take_all-requires : goal.take_all-requires
 take_all-requires c = record { sequenced = states_none _; held = rw c.requires.totals_value.0 (held_none (state_at c.args.log.bytes.now) c.args.log.header.period) }
 
 pub returns-in_err-take_all : goal.returns-in_err-take_all
-returns-in_err-take_all c = refused_as (stopped _ _ _ (sym c.take_all.ensures.scanned.answer ∙ c.in_err-take_all.was)) (grind arith)
+returns-in_err-take_all c =
+    let was : c.take_all.result ≡ Err c.in_err-take_all.field-0.0 = grind arith in
+    refused_as (stopped _ _ _ (sym c.take_all.ensures.scanned.answer ∙ was)) (grind arith)
 
 pub loop-m-init : goal.loop-m-init
 loop-m-init c =
-    let e = c.in_ok-take_all.was in
+    let e : c.take_all.result ≡ Ok tt = grind arith in
     record {
       same_totals = refl;
       finishing = finish_start (sym c.take_all.ensures.scanned.answer ∙ e) (rw c.requires.totals_value.1 (length-replicate {A = ℕ} 64 0)) (c.take_all.ensures.scanned.held e).held;
