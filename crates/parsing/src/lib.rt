@@ -16,8 +16,12 @@ fn read(text: &[u8]) -> Option<u64>
 pub fn parse_number(text: &[u8]) -> Option<u64>
     ensures { ParsedFrom text.now result }
 {
-    let n = read(text)?;
     let mut space = [0u8; 20];
+    // no decimal is longer, and a longer text is not read to its end
+    if text.len() > space.len() {
+        return None;
+    }
+    let n = read(text)?;
     let size = report::put_decimal(&mut space, 0, n);
     if &space[..size] == text {
         Some(n)

@@ -1,5 +1,5 @@
 -- `parsing::parse_number` meets its contract: a decimal is what std reads and `report` puts again. Assumes nothing.
-use Rattle.std.proofs.Common.{◌≡◌, Some, arith, sym, ap, ◌∙◌}
+use Rattle.std.proofs.Common.{◌≡◌, Some, length, arith, sym, ap, ◌∙◌}
 use Rattle.std.proofs.lemmas.Bool.{false≢true}
 use Rattle.std.proofs.lemmas.Bool.Decides.{Decides-eqb}
 use Rattle.std.proofs.lemmas.Slice.Eq.{slice_eq-Decides}
@@ -7,6 +7,9 @@ use Rattle.filling.proofs.Written.{front-text}
 use Rattle.report.specs.Report.{decimal}
 use Rattle.parsing.proofs.Decimal.{few, front}
 use Rattle.parsing.proofs.parse_number.Goals as goal
+
+pub returns-then-text-gt20 : goal.returns-then-text-gt20
+returns-then-text-gt20 c m h e = omega (arith, few m h, ap length e)
 
 pub put_decimal-size-requires : goal.put_decimal-size-requires
 put_decimal-size-requires c = omega (arith, few c.in_ok-n.n (omega arith))
