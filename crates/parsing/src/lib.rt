@@ -1,13 +1,15 @@
 // Numbers read from text.
 #![tactic(auto)]
 
-ghost use Rattle.std.specs.Prelude.{◌≡◌, ℕ, ◌^◌, ◌<◌, Some};
+ghost use Rattle.std.specs.Prelude.{◌≡◌, ℕ, ◌^◌, ◌<◌, Some, Ok, IfSome, ⊤};
+ghost use Rattle.std.specs.Str.Parse.{ParsesUnsigned};
 ghost use Rattle.report.specs.Report.{decimal};
 ghost use Rattle.parsing.specs.Parsed.{ParsedFrom};
 
 // The number that std reads a text as. It takes a sign and leading zeros too.
 fn read(text: &[u8]) -> Option<u64>
-    ensures { (n : ℕ) → n < 2 ^ 64 → text.now ≡ decimal n → result ≡ Some n }
+    ensures number { IfSome result (λ n. ParsesUnsigned {E = ⊤} 64 10 text.now (Ok n)) }
+    ensures decimal { (n : ℕ) → n < 2 ^ 64 → text.now ≡ decimal n → result ≡ Some n }
 {
     str::from_utf8(text).ok()?.parse().ok()
 }

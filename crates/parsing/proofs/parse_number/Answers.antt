@@ -28,6 +28,6 @@ returns-then-eq c =
 pub returns-else-eq : goal.returns-else-eq
 returns-else-eq c m h e =
     let put = front-text (front (omega arith) c.put_decimal-size.ensures) in
-    let q : Some m ≡ Some c.in_ok-n.n = grind (arith, c.read.ensures m h e) in
+    let q : Some m ≡ Some c.in_ok-n.n = grind (arith, c.read.ensures.decimal m h e) in
     let same : m ≡ c.in_ok-n.n = cc in
     false≢true (sym c.if-eq.false ∙ (slice_eq-Decides Decides-eqb _ _ _ c.eq.ensures).1 (put ∙ sym (e ∙ ap decimal same)))

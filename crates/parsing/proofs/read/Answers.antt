@@ -4,11 +4,11 @@ use Rattle.std.proofs.lemmas.Grind.{common_steps}
 use Rattle.parsing.proofs.Decimal.{utf8, parsed}
 use Rattle.parsing.proofs.read.Goals as goal
 
-pub returns-in_err-ok : goal.returns-in_err-ok
-returns-in_err-ok c n h e = let u = utf8 c.args.text.now n h e in grind (arith, common_steps, u)
+pub returns-in_err-ok-clause-decimal : goal.returns-in_err-ok-clause-decimal
+returns-in_err-ok-clause-decimal c n h e = let u = utf8 c.args.text.now n h e in grind (arith, common_steps, u)
 
-pub returns : goal.returns
-returns c n h e =
+pub returns-clause-decimal : goal.returns-clause-decimal
+returns-clause-decimal c n h e =
     let same : c.in_ok-ok.field-0.now ≡ c.args.text.now = search rules in
     let read = parsed _ c.parse.result c.parse.ensures.value.0 n h (same ∙ e) in
     search (rules, read)
