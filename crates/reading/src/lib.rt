@@ -74,6 +74,7 @@ fn read_argument<'a>(
 ) -> (&'a [u8], io::Result<&'a [u8]>)
     requires { length name.old ≤ 4096 }
     ensures short { length result.0.now ≤ 4096 }
+    ensures lent { 14 ≤ length name.old → length result.0.now ≤ length name.old }
     ensures within { IfOk result.1 (λ bytes. length bytes.now ≤ length input.old) }
 {
     match rt.arg(i, name) {
@@ -95,7 +96,8 @@ pub fn read_log<'a>(
     input: &'a mut [u8],
 ) -> Option<Named<'a>>
     requires { length name.old ≤ 4096 }
-    ensures { IfSome result (λ named. length named.bytes.now ≤ length input.old) }
+    ensures within { IfSome result (λ named. length named.bytes.now ≤ length input.old) }
+    ensures lent { 14 ≤ length name.old → IfSome result (λ named. length named.name.now ≤ length name.old) }
 {
     let (name, read) = read_argument(rt, i, name, input);
     match read {
