@@ -10,6 +10,16 @@ ghost use Rattle.telling.specs.Told.{Told};
 use e79::Figures;
 use rules::Refusal;
 
+// The flag of a refusal, 0, and its three numbers in the caller's array.
+// Plain numbers and no `Refusal`: C is told numbers, and here of any three.
+pub fn tell_refused(number: usize, list: usize, place: usize, refusal: &mut [u64; 3]) -> u32
+    ensures flag { result ≡ 0 }
+    ensures why { refusal.new ≡ number ∷ list ∷ place ∷ [] }
+{
+    *refusal = [number as u64, list as u64, place as u64];
+    0
+}
+
 // 1 where the verdict accepts, else 0; and the refusal's array.
 pub fn tell(verdict: Result<(), Refusal>, refusal: &mut [u64; 3]) -> u32
     ensures { Told verdict result refusal.new }
@@ -19,10 +29,7 @@ pub fn tell(verdict: Result<(), Refusal>, refusal: &mut [u64; 3]) -> u32
             *refusal = [0, 0, 0];
             1
         }
-        Err(x) => {
-            *refusal = x.into();
-            0
-        }
+        Err(x) => tell_refused(x.ground.number(), x.list.number(), x.place, refusal),
     }
 }
 
