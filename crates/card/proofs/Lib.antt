@@ -1,1 +1,2 @@
+pub mod OffCard
 pub mod Refusals

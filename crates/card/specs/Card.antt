@@ -8,6 +8,7 @@ use Rattle.rules.specs.declared.LogList.TheVariants.{NoList, States, Standards, 
 use Rattle.rules.specs.declared.Refusal.{Refusal}
 use Rattle.rules.specs.Names.{number_of}
 use Rattle.report.specs.Text.{ascii}
+use Rattle.report.specs.Lines.{ends}
 use Rattle.report.specs.Report.{decimal}
 
 -- a row: the trade word, what it means, and what to look for
@@ -56,7 +57,7 @@ meaning n = field n 1
 abbrev pub look_for : ℕ → List ℕ
 look_for n = field n 2
 
--- the three fields of a number, each of at most 96 bytes
+-- the three fields of a number, each of at most 96 bytes, and no byte 10 among them
 pub record OnCard (n : ℕ) (w m l : List ℕ) : Type 0 where
   pub its_word : w ≡ word n
   pub its_meaning : m ≡ meaning n
@@ -64,6 +65,9 @@ pub record OnCard (n : ℕ) (w m l : List ℕ) : Type 0 where
   pub short_word : length w ≤ 96
   pub short_meaning : length m ≤ 96
   pub short_look_for : length l ≤ 96
+  pub one_line_word : ends w ≡ 0
+  pub one_line_meaning : ends m ≡ 0
+  pub one_line_look_for : ends l ≡ 0
 
 -- ---- the row of a number
 

@@ -18,7 +18,7 @@ struct Row {
 }
 
 // The card, ground by ground.
-#[tactic(auto, unfolding(crate::specs::Card::card, crate::specs::Card::field))]
+#[tactic(auto, unfolding(crate::specs::Card::card, crate::specs::Card::field, report::specs::Lines::ends))]
 fn row_of(ground: Ground) -> Row
     ensures { OnCard (number_of ground) result.word.now result.meaning.now result.look_for.now }
 {
