@@ -1,2 +1,3 @@
 pub mod OffCard
+pub mod Numbers
 pub mod Refusals

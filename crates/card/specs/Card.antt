@@ -1,12 +1,12 @@
 -- The refusal card, and the words for a refusal. Definitions only.
-use Rattle.std.specs.Prelude.{◌≡◌, Bool, true, false, ◌&&◌, cond, List, [], ◌∷◌, ◌++◌, ℕ, ◌+◌, ◌*◌, ◌≤◌, leb, length, get_or}
+use Rattle.std.specs.Prelude.{◌≡◌, Bool, true, false, ◌&&◌, ◌||◌, cond, List, [], ◌∷◌, ◌++◌, ℕ, ◌+◌, ◌*◌, ◌≤◌, eqb, leb, length, get_or}
 use Prim.Native.String.{String}
 use Rattle.rules.specs.declared.Ground.{Ground}
 use Rattle.rules.specs.declared.Ground.TheVariants.{Length, StrayModule, NoOpening, TooFast, TooWide}
 use Rattle.rules.specs.declared.LogList.{LogList}
 use Rattle.rules.specs.declared.LogList.TheVariants.{NoList, States, Standards, Units, Benchmarks, Second, SecondStates, SecondStandards, SecondUnits}
 use Rattle.rules.specs.declared.Refusal.{Refusal}
-use Rattle.rules.specs.Names.{number_of}
+use Rattle.rules.specs.Names.{number_of, list_number}
 use Rattle.report.specs.Text.{ascii}
 use Rattle.report.specs.Lines.{ends}
 use Rattle.report.specs.Report.{decimal}
@@ -131,3 +131,44 @@ whereabouts x = place_of x.ground x.list x.place
 unfoldable pub words_of : Refusal → List ℕ
 unfolding field
 words_of x = word (number_of x.ground) ++ (ascii ": " ++ meaning (number_of x.ground)) ++ whereabouts x ++ ascii "\n"
+
+-- ---- any three numbers in words
+
+-- 0 to 4 and 10 to 13
+abbrev pub is_list : ℕ → Bool
+is_list l = leb l 4 || (leb 10 l && leb l 13)
+
+-- the kind of record by the number of its list, a header by any other
+abbrev pub kind_at : ℕ → List ℕ
+kind_at list =
+    cond (eqb list (list_number States)) (ascii " (a state record)")
+    (cond (eqb list (list_number Standards)) (ascii " (a standard)")
+    (cond (eqb list (list_number Units)) (ascii " (a unit record)") (ascii " (a header)")))
+
+abbrev pub is_module_at : ℕ → Bool
+is_module_at number = eqb number (number_of StrayModule) || (eqb number (number_of NoOpening) || eqb number (number_of TooFast))
+
+-- where, by the numbers: a list that is none points nowhere, but in 22, where it is a header's
+unfoldable pub whereabouts_at : ℕ → ℕ → ℕ → List ℕ
+unfolding decimal
+whereabouts_at number list place =
+    cond (eqb number (number_of TooWide)) (kind_at list)
+    (cond (eqb list (list_number States)) (around " (record " place " of the states)")
+    (cond (eqb list (list_number Standards)) (around " (record " place " of the standards)")
+    (cond (eqb list (list_number Units)) (around " (record " place " of the units)")
+    (cond (eqb list (list_number Benchmarks)) (cond (eqb number (number_of Length)) (ascii " (the benchmarks)") (around " (benchmark " place ")"))
+    (cond (eqb list (list_number SecondStates)) (around " (record " place " of the second log's states)")
+    (cond (eqb list (list_number SecondStandards)) (around " (record " place " of the second log's standards)")
+    (cond (eqb list (list_number SecondUnits)) (around " (record " place " of the second log's units)")
+    (cond (eqb list (list_number NoList)) (cond (is_module_at number) (around " (module " place ")") [])
+    (cond (eqb list (list_number Second)) (cond (is_module_at number) (around " (module " place " of the second log)") (ascii " (the second log)"))
+    [])))))))))
+
+-- a line: a word, a meaning and where
+abbrev pub line_of : List ℕ → List ℕ → List ℕ → List ℕ
+line_of word meaning place = word ++ (ascii ": " ++ meaning) ++ place ++ ascii "\n"
+
+-- word and meaning are empty where the card does not have the number; of a refusal's numbers it is what `words_of` says (`words-numbered`)
+unfoldable pub words_at : ℕ → ℕ → ℕ → List ℕ
+unfolding field whereabouts_at
+words_at number list place = line_of (word number) (meaning number) (whereabouts_at number list place)

@@ -4,8 +4,8 @@
 ghost use Rattle.std.specs.Prelude.{◌≡◌, [], ◌++◌, ◌+◌, ◌≤◌, length, false, MatchOption};
 ghost use Rattle.filling.specs.Buffer.{Put, AtFront};
 ghost use Rattle.report.specs.Report.{decimal};
-ghost use Rattle.rules.specs.Names.{number_of};
-ghost use Rattle.card.specs.Card.{OnCard, on_card, row_text, explained, is_module, kind, whereabouts, words_of};
+ghost use Rattle.rules.specs.Names.{number_of, list_number};
+ghost use Rattle.card.specs.Card.{OnCard, on_card, row_text, explained, is_module, kind, whereabouts, words_of, is_list, whereabouts_at, line_of, words_at};
 
 use rules::{Ground, LogList, Refusal};
 
@@ -294,13 +294,88 @@ fn put_whereabouts(buf: &mut [u8], at: usize, x: Refusal) -> usize
     }
 }
 
-// Writes a refusal in words to the front of the buffer and answers the line's length: the trade word, the ground and where.
-pub fn words_of(x: Refusal, buf: &mut [u8; 512]) -> usize
-    ensures { AtFront (words_of x) 512 buf.old result buf.new }
+// A line: word and meaning of a row, and where a refusal points to. The caller owes the room, and a row whose fields have at most 96 bytes.
+fn put_words(buf: &mut [u8], row: Row, x: Refusal) -> usize
+    requires room { 512 ≤ length buf.old }
+    requires short_word { length row.word.now ≤ 96 }
+    requires short_meaning { length row.meaning.now ≤ 96 }
+    ensures { AtFront (line_of row.word.now row.meaning.now (whereabouts x)) 512 buf.old result buf.new }
 {
-    let row = row_of(x.ground);
     let word = filling::put_text(buf, 0, row.word);
     let meaning = put_two(buf, word, b": ", row.meaning);
     let place = put_whereabouts(buf, meaning, x);
     filling::put_text(buf, place, b"\n")
+}
+
+// Writes a refusal in words to the front of the buffer and answers the line's length: the trade word, the ground and where.
+pub fn words_of(x: Refusal, buf: &mut [u8; 512]) -> usize
+    ensures { AtFront (words_of x) 512 buf.old result buf.new }
+{
+    put_words(buf, row_of(x.ground), x)
+}
+
+// The list of a number, where there is one. By hand, as a ground's.
+fn list_of(number: usize) -> Option<LogList>
+    ensures { MatchOption result (is_list number ≡ false) (λ l. list_number l ≡ number) }
+{
+    match number {
+        0 => Some(LogList::NoList),
+        1 => Some(LogList::States),
+        2 => Some(LogList::Standards),
+        3 => Some(LogList::Units),
+        4 => Some(LogList::Benchmarks),
+        10 => Some(LogList::Second),
+        11 => Some(LogList::SecondStates),
+        12 => Some(LogList::SecondStandards),
+        13 => Some(LogList::SecondUnits),
+        _ => None,
+    }
+}
+
+// What the card says of any number: nothing where it does not have the number.
+fn row_at(number: usize) -> Row
+    ensures { OnCard number result.word.now result.meaning.now result.look_for.now }
+{
+    match ground_of(number) {
+        Some(ground) => row_of(ground),
+        None => Row {
+            word: b"",
+            meaning: b"",
+            look_for: b"",
+        },
+    }
+}
+
+// A refusal that points where any three numbers do. A number that is no ground points as the first ground does, which has no place of its own kind;
+// a list that is none points as no list does, where no place is taken for a module.
+fn refusal_at(number: usize, list: usize, place: usize) -> Refusal
+    ensures { whereabouts result ≡ whereabouts_at number list place }
+{
+    let ground = ground_of(number).unwrap_or(Ground::NoHeader);
+    let none = LogList::NoList;
+    match list_of(list) {
+        Some(list) => Refusal {
+            ground,
+            list,
+            place,
+        },
+        None if is_module(ground) => Refusal {
+            ground: Ground::NoHeader,
+            list: none,
+            place,
+        },
+        None => Refusal {
+            ground,
+            list: none,
+            place,
+        },
+    }
+}
+
+// Writes any three numbers in words, those of a refusal as `words_of` does: word and meaning are empty where the card does not have the number,
+// and a list that is none points nowhere, but in 22, where it is a header's.
+pub fn words_at(number: usize, list: usize, place: usize, buf: &mut [u8; 512]) -> usize
+    ensures { AtFront (words_at number list place) 512 buf.old result buf.new }
+{
+    put_words(buf, row_at(number), refusal_at(number, list, place))
 }

@@ -24,9 +24,9 @@ pub use reporting::{examine, print_report, report, write_report};
 // The supplemental figures of the tool.
 pub use supplemental::{Supplemental, tool_supplemental};
 
-// The tables of state times, of quantities and of losses, the lines of supplemental figures, a refusal in words, and its row on the card.
+// The tables of state times, of quantities and of losses, the lines of supplemental figures, a refusal or any three numbers in words, and its row on the card.
 pub use appendix::{print_supplemental, print_supplemental_words};
-pub use card::{explain, words_of};
+pub use card::{explain, words_at, words_of};
 pub use printing::{Table, print_table, print_words};
 
 // One log of two consecutive ones.
