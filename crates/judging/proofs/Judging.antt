@@ -1,7 +1,7 @@
 -- The log judged, ground by ground: each part's answer decides, and an accepted log's arrays hold its sums.
 -- Assumes nothing.
 use mathlib.Core.Path.{◌≡◌, refl, sym, ap, ◌∙◌}
-use mathlib.Core.Bool.{Bool, ◌||◌}
+use mathlib.Core.Bool.{Bool, true, false, ◌||◌}
 use mathlib.Core.List.{List}
 use Prim.Native.Nat.{ℕ, ◌+◌, ◌*◌, ◌≤◌, ◌<◌}
 use native.Mathlib.Omega.{arith}
@@ -24,7 +24,7 @@ use Rattle.states.specs.Tally.{Tallied}
 use Rattle.theoretical.specs.Credits.{UnitsCredited}
 use Rattle.judging.specs.Working.{WorkingTotals, Grounded, Consistent}
 use Rattle.judging.proofs.Bounds.{good-period, good-modules, good-counts}
-use Rattle.judging.proofs.Accepted.{consistent, none_over}
+use Rattle.judging.proofs.Accepted.{consistent, none_over, sums_never}
 
 -- what an accepted header tells, of a log of n bytes
 pub record Counted (n : ℕ) (h : Header) : Type 0 where
@@ -142,7 +142,8 @@ module _ (s : List ℕ) where
           by_greats = by_sums ∙ ap (λ (w : Verdict). w then ground TooGreat NoList 0 (any_over (of_tool (decode s)) || any_time_over (tool_times (decode s)))) fast
 
           pub judged_greats : (x : Refusal) (b : Bool) → b ≡ (any_over (of_tool (decode s)) || any_time_over (tool_times (decode s))) → ground TooGreat NoList 0 b ≡ Err x → verdict s ≡ Err x
-          judged_greats x b q e = by_greats ∙ ap (ground TooGreat NoList 0) (sym q) ∙ e
+          judged_greats x true q e = by_sums ∙ sym (sums_never (decode s) grounded fast true refl (λ t. sym q) (Err x) (sym e)).0
+          judged_greats x false q e = let z : ◌≡◌ {A = ℕ} 0 1 = cc in absurd (omega arith)
 
           pub all_consistent : Consistent (decode s)
           all_consistent = consistent (decode s) grounded fast

@@ -78,19 +78,25 @@ pub fn judge_credited<'a>(log: &'a [u8], credited: &mut [u64; 512]) -> Result<Ac
     let mut actual = [0u64; 64];
     let mut effective = [0u64; 64];
     theoretical::credit_units(log.units(), &mut actual, &mut effective, credited)?;
-    let totals = Totals {
+    let sums = Totals {
         log: log.bytes,
         period: h.period,
         modules: h.modules,
+        totals: &totals,
+        uptime: &uptime,
+        actual: &actual,
+        effective: &effective,
+    };
+    test_speeds(&sums)?;
+    let over = over_quantities(sums.tool_quantities()) | over_times(sums.tool_times());
+    Ground::TooGreat.refuses(over, LogList::NoList, 0)?;
+    Ok(Account {
+        log,
         totals,
         uptime,
         actual,
         effective,
-    };
-    test_speeds(&totals)?;
-    let over = over_quantities(totals.tool_quantities()) | over_times(totals.tool_times());
-    Ground::TooGreat.refuses(over, LogList::NoList, 0)?;
-    Ok(Account { log, totals })
+    })
 }
 
 // The same for a call that hands no credited units out.

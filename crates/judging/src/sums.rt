@@ -7,22 +7,22 @@ ghost use Rattle.judging.specs.Working.{Consistent, WorkingTotals};
 use e79::Quantities;
 use rules::StateTimes;
 
-// What its header says of period and modules, and the working totals: for each module six state times, the uptime, and the theoretical times for actual
-// and for effective units. Arrays lent and summed by the module's number, and no array of structs: the pass over the states adds to the first alone, at six
+// What its header says of period and modules, and the working totals, lent: for each module six state times, the uptime, and the theoretical times for actual
+// and for effective units. Arrays summed by the module's number, and no array of structs: the pass over the states adds to the first alone, at six
 // times module plus state, as document 01 has it. Period and modules are the header's, which `records::read_header` gives for every slice. That the log is
-// consistent stands in three contracts: totals are made before the speeds are tested, and an `Account` owns it.
+// consistent stands in three contracts: totals are seen before the speeds are tested, and an `Account` owns it.
 #[derive(Clone, Copy)]
 pub struct Totals<'a> {
     pub log: &'a [u8],
     pub period: u64,
     pub modules: usize,
-    pub totals: [u64; 384],
-    pub uptime: [u64; 64],
-    pub actual: [u64; 64],
-    pub effective: [u64; 64],
+    pub totals: &'a [u64; 384],
+    pub uptime: &'a [u64; 64],
+    pub actual: &'a [u64; 64],
+    pub effective: &'a [u64; 64],
     pub ghost period_value: { period ≡ (decode log.now).period },
     pub ghost modules_value: { modules ≡ (decode log.now).modules },
-    pub ghost working_totals: { WorkingTotals (decode log.now) totals uptime actual effective },
+    pub ghost working_totals: { WorkingTotals (decode log.now) totals.now uptime.now actual.now effective.now },
 }
 
 // A quantity summed over the modules. By number: `values[..modules].iter().sum()` was tried, and that `modules` is within the array did not close.
@@ -73,7 +73,7 @@ impl<'a> Totals<'a> {
     fn sum_state(&self, k: usize) -> u64
         requires state { k < 6 }
         requires consistent { Consistent (decode self.now.log.now) }
-        ensures { result ≡ sum_below (λ m. get_or self.now.totals (6 * m + k) 0) self.now.modules }
+        ensures { result ≡ sum_below (λ m. get_or self.now.totals.now (6 * m + k) 0) self.now.modules }
     {
         let mut sum: u64 = 0;
         // By index: a module's six totals stand side by side.
@@ -105,10 +105,10 @@ impl<'a> Totals<'a> {
     {
         Quantities {
             total: self.period * self.modules as u64,
-            uptime: sum_modules(&self.uptime, self.modules),
+            uptime: sum_modules(self.uptime, self.modules),
             production: self.sum_state(0),
-            actual: sum_modules(&self.actual, self.modules),
-            effective: sum_modules(&self.effective, self.modules),
+            actual: sum_modules(self.actual, self.modules),
+            effective: sum_modules(self.effective, self.modules),
         }
     }
 }

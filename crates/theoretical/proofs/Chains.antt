@@ -218,14 +218,18 @@ module _ (m recipe time : ℕ) where
     pub none_reached : Searching 0 → last_in_force (up_to at n) m recipe time ≡ none
     none_reached s = s.same ∙ last_none started at
 
+    -- the walk that begins at the last for them, or nowhere where none is, misses nothing: behind that are others' alone
+    pub from_the_last : (o : Option Placed) → last_placed (is_for m recipe) (up_to at n) ≡ o → Searching (link_to o)
+    from_the_last none e = record { within = omega arith; same = narrower (is_for m recipe) started at begun_own n ∙ rw e refl }
+    from_the_last (some p) e = let l = the_last (is_for m recipe) at n p e in record { within = omega (arith, l.within); same = narrower (is_for m recipe) started at begun_own n ∙ rw e refl }
+
     -- where none is for the module and the recipe, none has begun
     no_own : last_placed (is_for m recipe) (up_to at n) ≡ none → last_in_force (up_to at n) m recipe time ≡ none
-    no_own e = narrower (is_for m recipe) started at begun_own n ∙ rw e (last_none started at)
+    no_own e = none_reached (from_the_last none e)
 
-    -- behind the last for them are others' alone
     module _ (p : Placed) (e : last_placed (is_for m recipe) (up_to at n) ≡ some p) where
       from_it : Searching (suc p.index)
-      from_it = let l = the_last (is_for m recipe) at n p e in record { within = omega (arith, l.within); same = narrower (is_for m recipe) started at begun_own n ∙ rw (e, add-one p.index) refl }
+      from_it = rw (← add-one p.index) (from_the_last (some p) e)
 
       newest : p.standard.start ≤ time → last_in_force (up_to at n) m recipe time ≡ some p
       newest h =
@@ -235,11 +239,6 @@ module _ (m recipe time : ℕ) where
 
       pub newest_passed : time < p.standard.start → Searching p.index
       newest_passed h = let l = the_last (is_for m recipe) at n p e in passed p.index from_it (not_begun m recipe (at p.index) time (rw l.same at h))
-
-    -- the walk that begins at the last for them, or nowhere where none is, misses nothing
-    pub from_the_last : (o : Option Placed) → last_placed (is_for m recipe) (up_to at n) ≡ o → Searching (link_to o)
-    from_the_last none e = record { within = omega arith; same = no_own e ∙ sym (last_none started at) }
-    from_the_last (some p) e = rw (add-one p.index) (from_it p e)
 
   pub none_begun : (ss : List Standard) → last_placed (is_for m recipe) ss ≡ none → last_in_force ss m recipe time ≡ none
   none_begun = of_elements (λ ss. last_placed (is_for m recipe) ss ≡ none → last_in_force ss m recipe time ≡ none) no_own

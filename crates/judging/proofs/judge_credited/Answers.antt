@@ -48,8 +48,8 @@ returns-in_err-credit_units-clause-judged c =
     let err : c.from_residual-in_err-credit_units.result ≡ Err c.in_err-credit_units.field-0.0 = grind arith in
     rw err (judged_units c.args.log.now header fine _ (sym u.answer ∙ c.in_err-credit_units.was))
 
-pub invariant_of-totals : goal.invariant_of-totals
-invariant_of-totals c =
+pub invariant_of-sums : goal.invariant_of-sums
+invariant_of-sums c =
     let header : header_grounds c.args.log.now ≡ Ok tt = sym c.test_header.ensures ∙ c.in_ok-test_header.was in
     let n = counted c.args.log.now _ c.read_header-h.ensures header in
     let t = rw (c.states.ensures.0, c.states.ensures.1, c.new-log.ensures.0, c.new-log.ensures.1, c.read_header-h.ensures) at c.tally_states.ensures in
@@ -131,8 +131,8 @@ invariant_of-result c =
     rw c.new-log.ensures.0
     record {
       accepted = all_accepted c.args.log.now header fine good fast;
-      own = refl;
       consistent = all_consistent c.args.log.now header fine good fast;
+      working_totals = held c.args.log.now header fine good _ _ _ _ _ _ _ t c.in_ok-tally_states.was u c.in_ok-credit_units.was;
     }
 
 pub returns-clause-credited : goal.returns-clause-credited

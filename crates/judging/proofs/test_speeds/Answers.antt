@@ -33,10 +33,10 @@ returns-in_err-refuses c =
     let t = c.args.t.now in
     let err : c.from_residual.result ≡ Err c.in_err-refuses.field-0.0 = grind arith in
     err ∙ sym (first_stop (fast_ground (decode t.log.now)) t.modules c.loop-m.m _ c.loop-m-test.true c.loop-m.invariant
-    (sym (speed (decode t.log.now) t.totals t.uptime t.actual t.effective t.working_totals c.loop-m.m (rw (← t.modules_value) c.loop-m-test.true)) ∙ sym c.refuses.ensures ∙ c.in_err-refuses.was))
+    (sym (speed (decode t.log.now) t.totals.now t.uptime.now t.actual.now t.effective.now t.working_totals c.loop-m.m (rw (← t.modules_value) c.loop-m-test.true)) ∙ sym c.refuses.ensures ∙ c.in_err-refuses.was))
 
 pub loop-m-preserved : goal.loop-m-preserved
 loop-m-preserved c =
     let t = c.args.t.now in
     first_more (fast_ground (decode t.log.now)) c.loop-m.m c.loop-m.invariant
-    (sym (speed (decode t.log.now) t.totals t.uptime t.actual t.effective t.working_totals c.loop-m.m (rw (← t.modules_value) c.loop-m-test.true)) ∙ sym c.refuses.ensures ∙ c.in_ok-refuses.was)
+    (sym (speed (decode t.log.now) t.totals.now t.uptime.now t.actual.now t.effective.now t.working_totals c.loop-m.m (rw (← t.modules_value) c.loop-m-test.true)) ∙ sym c.refuses.ensures ∙ c.in_ok-refuses.was)

@@ -5,4 +5,4 @@ use Rattle.rules.specs.Quantities.{sum_below}
 use Rattle.judging.proofs.sums.Totals.sum_state.Given as goal
 
 abbrev pub invariant-loop-m : goal.invariant-loop-m
-invariant-loop-m l = l.sum ≡ sum_below (λ j. get_or l.self.totals (6 * j + l.k) 0) l.m
+invariant-loop-m l = l.sum ≡ sum_below (λ j. get_or l.self.totals.now (6 * j + l.k) 0) l.m

@@ -17,8 +17,8 @@ returns c =
     let sum = summed l c.requires t.modules t.modules_value in
     rw (
       ap (λ (p : ℕ). p * t.modules) t.period_value ∙ total_is l c.requires t.modules t.modules_value,
-      c.sum_modules.ensures ∙ sum (λ m. get_or t.uptime m 0) (uptime l) held.uptimes,
-      c.sum_state.ensures ∙ state_sum l c.requires t.modules t.modules_value t.totals t.uptime t.actual t.effective held 0 (omega arith),
-      c.sum_modules-2.ensures ∙ sum (λ m. get_or t.actual m 0) (actual_time l) held.actuals,
-      c.sum_modules-3.ensures ∙ sum (λ m. get_or t.effective m 0) (effective_time l) held.effectives,
+      c.sum_modules.ensures ∙ sum (λ m. get_or t.uptime.now m 0) (uptime l) held.uptimes,
+      c.sum_state.ensures ∙ state_sum l c.requires t.modules t.modules_value t.totals.now t.uptime.now t.actual.now t.effective.now held 0 (omega arith),
+      c.sum_modules-2.ensures ∙ sum (λ m. get_or t.actual.now m 0) (actual_time l) held.actuals,
+      c.sum_modules-3.ensures ∙ sum (λ m. get_or t.effective.now m 0) (effective_time l) held.effectives,
     )

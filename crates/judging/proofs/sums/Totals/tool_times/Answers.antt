@@ -9,7 +9,7 @@ use Rattle.judging.proofs.sums.Totals.tool_times.Goals as goal
 pub returns : goal.returns
 returns c =
     let t = c.args.self.now in
-    let sum = state_sum (decode t.log.now) c.requires t.modules t.modules_value t.totals t.uptime t.actual t.effective t.working_totals in
+    let sum = state_sum (decode t.log.now) c.requires t.modules t.modules_value t.totals.now t.uptime.now t.actual.now t.effective.now t.working_totals in
     rw (
       c.sum_state.ensures ∙ sum 0 (omega arith),
       c.sum_state-2.ensures ∙ sum 1 (omega arith),
