@@ -5,6 +5,7 @@ use mathlib.Core.Bool.{Bool, true, false, ◌&&◌, ◌||◌, cond}
 use mathlib.Core.Option.{Option, none, some}
 use mathlib.Core.List.{List, [], ◌∷◌, ◌++◌, foldl-append}
 use Prim.Native.Nat.{ℕ, zero, suc, ◌+◌, ◌/◌, ◌%◌, ◌≤◌, ◌<◌}
+use native.Mathlib.Nat.{add-zero}
 use native.Mathlib.Numerals.{add-one}
 use native.Mathlib.Decide.{ℕ_discrete}
 use native.Mathlib.Omega.{arith}
@@ -211,6 +212,14 @@ module _ (m recipe time : ℕ) where
     -- one that has not begun is passed over, and the first that has is the one
     pub passed : (i : ℕ) → Searching (suc i) → started (at i) ≡ false → Searching i
     passed i s e = record { within = omega (arith, s.within); same = s.same ∙ last_more started at i ∙ rw e refl }
+
+    -- so are those that start after the time
+    pub later : (k left : ℕ) → Searching (left + k) → ((i : ℕ) → left ≤ i → i < left + k → time < (at i).start) → Searching left
+    later zero left s h = rw (add-zero left) at s
+    later (suc k) left s h =
+        let one : left + suc k ≡ suc (left + k) = omega arith in
+        let i = left + k in
+        later k left (passed i (rw one at s) (not_begun m recipe (at i) time (h i (omega arith) (omega arith)))) (λ j a b. h j a (omega (arith, b)))
 
     pub reached : (i : ℕ) → Searching (suc i) → started (at i) ≡ true → last_in_force (up_to at n) m recipe time ≡ some (placed i (at i))
     reached i s e = s.same ∙ last_more started at i ∙ rw e refl

@@ -1,7 +1,7 @@
 // Standards listed one by one, in any sequence, and looked up by module, recipe and time: plain numbers with their bounds in each contract, since the
 // definitions take them so, one by one.
 
-ghost use Rattle.std.specs.Prelude.{◌≡◌, ◌^◌, ◌<◌, ◌≤◌, ◌&&◌, eqb, [], ◌∷◌, ◌++◌, length};
+ghost use Rattle.std.specs.Prelude.{◌≡◌, ℕ, ◌^◌, ◌<◌, ◌≤◌, ◌&&◌, eqb, [], ◌∷◌, ◌++◌, length, get_or};
 ghost use Rattle.rules.specs.Theoretical.{placed, is_for, has_begun, last_in_force};
 ghost use Rattle.rules.specs.RecordGrounds.{is_among};
 ghost use Rattle.theoretical.specs.Listing.{pair_of, bin_of, standard_of, entry_of, with_entry, listed, last_placed, found};
@@ -115,13 +115,33 @@ impl Entries {
         self.starts[i] <= time && self.pairs[i] == pair_of(module, recipe)
     }
 
+    // How many of the first `from` entries are left where those behind start after the time. Four at a step: a walk of one at a step took up to twice as long
+    // where its few instructions were laid across a line.
+    fn pass_later(&self, from: usize, time: u64) -> usize
+        requires { from ≤ 512 }
+        ensures within { result ≤ from }
+        ensures later { (i : ℕ) → result ≤ i → i < from → time < get_or self.now.starts i 0 }
+    {
+        let mut left = from;
+        while 4 <= left
+            && time < self.starts[left - 1]
+            && time < self.starts[left - 2]
+            && time < self.starts[left - 3]
+            && time < self.starts[left - 4]
+        {
+            left -= 4;
+        }
+        left
+    }
+
     // The walk over the first `from` entries, from the last of them towards the front: the first on the way that is for the module and the recipe and starts at or
     // before the time, or none.
     fn last_begun(&self, from: usize, module: usize, recipe: usize, time: u64) -> Option<Placed>
         requires { (from ≤ 512) × («module» < 64) × (recipe < 1024) }
         ensures { result ≡ found (last_in_force (listed self.now from) «module» recipe time) }
     {
-        for index in (0..from).rev() {
+        let left = self.pass_later(from, time);
+        for index in (0..left).rev() {
             if self.has_begun(index, module, recipe, time) {
                 return Some(self.entry(index).placed(index));
             }
