@@ -1,5 +1,6 @@
 // The calls for state times, quantities, doubles and losses, of a module and of the tool. None has a `requires`. Each is answered by a definition of its
-// own and called from C by a name of its own: a generic call over what is asked for would be a ninth name, and no shorter.
+// own and called from C by a name of its own: a generic call over what is asked for would be a ninth name, and no shorter. An account is looked at where it was
+// answered, by `match` and not by `?`, which copies its 4.6 KB twice.
 #![tactic(auto)]
 
 ghost use Rattle.std.specs.Prelude.{◌≡◌, ◌<◌};
@@ -18,63 +19,89 @@ use rules::{Ground, LogList, Refusal, StateTimes};
 pub fn judge_module(log: &[u8], m: usize) -> Result<Account<'_>, Refusal>
     ensures { MatchResult result (λ a. (a.log.bytes ≡ log.entry) × (m < (decode log.entry.now).modules)) (λ x. verdict_on log.entry.now m ≡ Err x) }
 {
-    let account = judging::judge_log(log)?;
-    Ground::StrayModule.refuses(account.modules() <= m, LogList::NoList, m)?;
-    Ok(account)
+    let judged = judging::judge_log(log);
+    if let Ok(account) = &judged {
+        Ground::StrayModule.refuses(account.modules() <= m, LogList::NoList, m)?;
+    }
+    judged
 }
 
 // The six state times of module m.
 pub fn module_state_times(log: &[u8], m: usize) -> Result<StateTimes, Refusal>
     ensures { ModuleTimes log.now m result }
 {
-    Ok(judge_module(log, m)?.module_times(m))
+    match &judge_module(log, m) {
+        Ok(account) => Ok(account.module_times(m)),
+        Err(x) => Err(*x),
+    }
 }
 
 // The tool's, which sum those of its modules.
 pub fn tool_state_times(log: &[u8]) -> Result<StateTimes, Refusal>
     ensures { ToolTimes log.now result }
 {
-    Ok(judging::judge_log(log)?.tool_times())
+    match &judging::judge_log(log) {
+        Ok(account) => Ok(account.tool_times()),
+        Err(x) => Err(*x),
+    }
 }
 
 // The five quantities of module m.
 pub fn module_quantities(log: &[u8], m: usize) -> Result<Quantities, Refusal>
     ensures { ModuleQuantities log.now m result }
 {
-    Ok(judge_module(log, m)?.module_quantities(m))
+    match &judge_module(log, m) {
+        Ok(account) => Ok(account.module_quantities(m)),
+        Err(x) => Err(*x),
+    }
 }
 
 // The tool's.
 pub fn tool_quantities(log: &[u8]) -> Result<Quantities, Refusal>
     ensures { ToolQuantities log.now result }
 {
-    Ok(judging::judge_log(log)?.tool_quantities())
+    match &judging::judge_log(log) {
+        Ok(account) => Ok(account.tool_quantities()),
+        Err(x) => Err(*x),
+    }
 }
 
 // The set of doubles of module m.
 pub fn module_figures(log: &[u8], m: usize) -> Result<Figures, Refusal>
     ensures { ModuleFigures log.now m result }
 {
-    Ok(e79::figures_of_ordered(judge_module(log, m)?.module_quantities(m)))
+    match &judge_module(log, m) {
+        Ok(account) => Ok(e79::figures_of_ordered(account.module_quantities(m))),
+        Err(x) => Err(*x),
+    }
 }
 
 // The tool's.
 pub fn tool_figures(log: &[u8]) -> Result<Figures, Refusal>
     ensures { ToolFigures log.now result }
 {
-    Ok(e79::figures_of_ordered(judging::judge_log(log)?.tool_quantities()))
+    match &judging::judge_log(log) {
+        Ok(account) => Ok(e79::figures_of_ordered(account.tool_quantities())),
+        Err(x) => Err(*x),
+    }
 }
 
 // The losses of module m, which add up.
 pub fn module_losses(log: &[u8], m: usize) -> Result<Losses, Refusal>
     ensures { ModuleLosses log.now m result }
 {
-    Ok(losses::losses_of_ordered(judge_module(log, m)?.module_quantities(m)))
+    match &judge_module(log, m) {
+        Ok(account) => Ok(losses::losses_of_ordered(account.module_quantities(m))),
+        Err(x) => Err(*x),
+    }
 }
 
 // The tool's.
 pub fn tool_losses(log: &[u8]) -> Result<Losses, Refusal>
     ensures { ToolLosses log.now result }
 {
-    Ok(losses::losses_of_ordered(judging::judge_log(log)?.tool_quantities()))
+    match &judging::judge_log(log) {
+        Ok(account) => Ok(losses::losses_of_ordered(account.tool_quantities())),
+        Err(x) => Err(*x),
+    }
 }

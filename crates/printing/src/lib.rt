@@ -161,9 +161,9 @@ fn put_table(buf: &mut [u8], table: Table, account: &Account<'_>) -> usize
 pub fn print_table(table: Table, log: &[u8], buf: &mut [u8; 5000]) -> usize
     ensures { Prints (table_text table) 5000 log.now buf.old result buf.new }
 {
-    match judging::judge_log(log) {
-        Ok(account) => put_table(buf, table, &account),
-        Err(x) => report::put_refused_line(buf, x),
+    match &judging::judge_log(log) {
+        Ok(account) => put_table(buf, table, account),
+        Err(x) => report::put_refused_line(buf, *x),
     }
 }
 

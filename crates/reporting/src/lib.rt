@@ -35,8 +35,12 @@ fn report_length(account: &Account<'_>) -> usize
 pub fn examine(log: &[u8], room: usize) -> Result<(), Refusal>
     ensures { Examined log.now room result }
 {
-    let account = judging::judge_log(log)?;
-    Ground::ShortBuffer.refuses(room < report_length(&account), LogList::NoList, 0)
+    match &judging::judge_log(log) {
+        Ok(account) => {
+            Ground::ShortBuffer.refuses(room < report_length(account), LogList::NoList, 0)
+        }
+        Err(x) => Err(*x),
+    }
 }
 
 // The modules' lines, put into the buffer from `at` on. Alike `put_lines` of `printing` but for the line: a function over that step would be longer, since
@@ -68,13 +72,14 @@ fn put_report(buf: &mut [u8], account: &Account<'_>) -> usize
 pub fn write_report(log: &[u8], buf: &mut [u8]) -> usize
     ensures { Written log.now buf.old result buf.new }
 {
-    let Ok(account) = judging::judge_log(log) else {
+    let judged = judging::judge_log(log);
+    let Ok(account) = &judged else {
         return 0;
     };
-    if buf.len() < report_length(&account) {
+    if buf.len() < report_length(account) {
         return 0;
     }
-    put_report(buf, &account)
+    put_report(buf, account)
 }
 
 // Writes the report to the front of the buffer and hands that written part back, empty in just the cases that `examine` refuses for the buffer's
@@ -92,8 +97,8 @@ pub fn report<'a>(log: &[u8], buf: &'a mut [u8]) -> &'a mut [u8]
 pub fn print_report(log: &[u8], buf: &mut [u8; 2494]) -> usize
     ensures { Prints report_text 2494 log.now buf.old result buf.new }
 {
-    match judging::judge_log(log) {
-        Ok(account) => put_report(buf, &account),
-        Err(x) => report::put_refused_line(buf, x),
+    match &judging::judge_log(log) {
+        Ok(account) => put_report(buf, account),
+        Err(x) => report::put_refused_line(buf, *x),
     }
 }

@@ -135,7 +135,8 @@ impl Entries {
     }
 
     // The walk over the first `from` entries, from the last of them towards the front: the first on the way that is for the module and the recipe and starts at or
-    // before the time, or none.
+    // before the time, or none. Not inlined: nearly every look-up ends ahead of it, and is slower with it.
+    #[inline(never)]
     fn last_begun(&self, from: usize, module: usize, recipe: usize, time: u64) -> Option<Placed>
         requires { (from ≤ 512) × («module» < 64) × (recipe < 1024) }
         ensures { result ≡ found (last_in_force (listed self.now from) «module» recipe time) }

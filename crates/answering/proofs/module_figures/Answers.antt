@@ -12,16 +12,15 @@ use Rattle.rules.specs.Verdict.{verdict}
 use Rattle.answering.proofs.Answers.{module_refused, module_answered}
 use Rattle.answering.proofs.module_figures.Goals as goal
 
-pub returns-in_err-judge_module : goal.returns-in_err-judge_module
-returns-in_err-judge_module c =
+pub returns-in-Err : goal.returns-in-Err
+returns-in-Err c =
     let s = c.args.log.now in
-    let err : c.from_residual.result ≡ Err c.in_err-judge_module.field-0.0 = grind arith in
-    rw err (module_refused s (figures_of (of_module (decode s) c.args.m)) (Accurate (of_module (decode s) c.args.m)) c.args.m _ c.in_err-judge_module.ensures)
+    module_refused s (figures_of (of_module (decode s) c.args.m)) (Accurate (of_module (decode s) c.args.m)) c.args.m _ (rw c.in-Err.is at c.judge_module.ensures)
 
-pub returns : goal.returns
-returns c =
+pub returns-in-Ok : goal.returns-in-Ok
+returns-in-Ok c =
     let s = c.args.log.now in
-    let own = c.in_ok-judge_module.ensures in
-    let accepted : verdict s ≡ Ok tt = rw (← own.0) c.in_ok-judge_module.field-0.accepted in
-    let consistent = rw own.0 at c.in_ok-judge_module.field-0.consistent in
+    let own = rw c.in-Ok.is at c.judge_module.ensures in
+    let accepted : verdict s ≡ Ok tt = rw (← own.0) c.in-Ok.account.accepted in
+    let consistent = rw own.0 at c.in-Ok.account.consistent in
     module_answered s (figures_of (of_module (decode s) c.args.m)) (Accurate (of_module (decode s) c.args.m)) c.args.m _ accepted own.1 (c.figures_of_ordered.ensures.computed ∙ ap figures_of (rw own.0 at c.module_quantities.ensures)) (accurate _ (consistent.each c.args.m own.1))

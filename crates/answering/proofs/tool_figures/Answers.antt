@@ -11,11 +11,10 @@ use Rattle.judging.proofs.Accepted.{tool_ordered}
 use Rattle.answering.proofs.Answers.{tool_refused}
 use Rattle.answering.proofs.tool_figures.Goals as goal
 
-pub returns-in_err-judge_log : goal.returns-in_err-judge_log
-returns-in_err-judge_log c =
+pub returns-in-Err : goal.returns-in-Err
+returns-in-Err c =
     let s = c.args.log.now in
-    let err : c.from_residual.result ≡ Err c.in_err-judge_log.field-0.0 = grind arith in
-    rw err (tool_refused s (figures_of (of_tool (decode s))) (Accurate (of_tool (decode s))) _ c.in_err-judge_log.ensures)
+    tool_refused s (figures_of (of_tool (decode s))) (Accurate (of_tool (decode s))) _ (rw c.in-Err.is at c.judge_log.ensures)
 
 pub figures_of_ordered-requires : goal.figures_of_ordered-requires
-figures_of_ordered-requires c = rw c.tool_quantities.ensures (tool_ordered _ c.in_ok-judge_log.field-0.consistent)
+figures_of_ordered-requires c = rw c.tool_quantities.ensures (tool_ordered _ c.in-Ok.account.consistent)

@@ -9,15 +9,15 @@ use Rattle.rules.specs.Verdict.{verdict}
 use Rattle.answering.proofs.Answers.{tool-whole, tool_refused, tool_answered}
 use Rattle.answering.proofs.tool_state_times.Goals as goal
 
-pub returns-in_err-judge_log : goal.returns-in_err-judge_log
-returns-in_err-judge_log c =
+pub returns-in-Err : goal.returns-in-Err
+returns-in-Err c =
     let s = c.args.log.now in
-    let err : c.from_residual.result ≡ Err c.in_err-judge_log.field-0.0 = grind arith in
-    rw err (tool_refused s (tool_times (decode s)) (λ t. all_times t ≡ (of_tool (decode s)).total) _ c.in_err-judge_log.ensures)
+    tool_refused s (tool_times (decode s)) (λ t. all_times t ≡ (of_tool (decode s)).total) _ (rw c.in-Err.is at c.judge_log.ensures)
 
-pub returns : goal.returns
-returns c =
+pub returns-in-Ok : goal.returns-in-Ok
+returns-in-Ok c =
     let s = c.args.log.now in
-    let accepted : verdict s ≡ Ok tt = rw (← c.in_ok-judge_log.ensures) c.in_ok-judge_log.field-0.accepted in
-    let consistent = rw c.in_ok-judge_log.ensures at c.in_ok-judge_log.field-0.consistent in
-    tool_answered s (tool_times (decode s)) (λ t. all_times t ≡ (of_tool (decode s)).total) _ accepted (rw c.in_ok-judge_log.ensures at c.tool_times.ensures) (tool-whole (decode s) consistent)
+    let own = rw c.in-Ok.is at c.judge_log.ensures in
+    let accepted : verdict s ≡ Ok tt = rw (← own) c.in-Ok.account.accepted in
+    let consistent = rw own at c.in-Ok.account.consistent in
+    tool_answered s (tool_times (decode s)) (λ t. all_times t ≡ (of_tool (decode s)).total) _ accepted (rw own at c.tool_times.ensures) (tool-whole (decode s) consistent)

@@ -12,11 +12,12 @@ put_table-requires c = omega (arith, table_longest _ c.in-Ok.account.consistent 
 pub returns-in-Ok : goal.returns-in-Ok
 returns-in-Ok c =
     let a = c.args in
-    let accepted = rw c.in-Ok.ensures at c.in-Ok.account.accepted in
-    let fits = table_longest _ (rw c.in-Ok.ensures at c.in-Ok.account.consistent) a.table in
-    prints_text (table_text a.table) 5000 a.log.now a.buf.now _ _ accepted fits (rw c.in-Ok.ensures at c.put_table.ensures)
+    let own = rw c.in-Ok.is at c.judge_log.ensures in
+    let accepted = rw own at c.in-Ok.account.accepted in
+    let fits = table_longest _ (rw own at c.in-Ok.account.consistent) a.table in
+    prints_text (table_text a.table) 5000 a.log.now a.buf.now _ _ accepted fits (rw own at c.put_table.ensures)
 
 pub returns-in-Err : goal.returns-in-Err
 returns-in-Err c =
     let a = c.args in
-    prints_refused (table_text a.table) 5000 a.log.now a.buf.now _ _ _ c.in-Err.ensures c.put_refused_line.ensures (lit≤ tt)
+    prints_refused (table_text a.table) 5000 a.log.now a.buf.now _ _ _ (rw c.in-Err.is at c.judge_log.ensures) c.put_refused_line.ensures (lit≤ tt)

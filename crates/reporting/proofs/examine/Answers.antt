@@ -12,13 +12,12 @@ use Rattle.rules.specs.Verdict.{verdict}
 use Rattle.reporting.proofs.Reporting.{examined_refused, examined}
 use Rattle.reporting.proofs.examine.Goals as goal
 
-pub returns-in_err-account : goal.returns-in_err-account
-returns-in_err-account c =
-    let err : c.from_residual.result ≡ Err c.in_err-account.field-0.0 = grind arith in
-    rw err (examined_refused c.args.log.now c.args.room _ c.in_err-account.ensures)
+pub returns-in-Err : goal.returns-in-Err
+returns-in-Err c = examined_refused c.args.log.now c.args.room _ (rw c.in-Err.is at c.judge_log.ensures)
 
-pub returns : goal.returns
-returns c =
-    let accepted : verdict c.args.log.now ≡ Ok tt = rw (← c.in_ok-account.ensures) c.in_ok-account.account.accepted in
-    let size = rw c.in_ok-account.ensures at c.report_length.ensures in
+pub returns-in-Ok : goal.returns-in-Ok
+returns-in-Ok c =
+    let own = rw c.in-Ok.is at c.judge_log.ensures in
+    let accepted : verdict c.args.log.now ≡ Ok tt = rw (← own) c.in-Ok.account.accepted in
+    let size = rw own at c.report_length.ensures in
     examined c.args.log.now c.args.room accepted _ (c.refuses.ensures ∙ ap (λ (n : ℕ). ground ShortBuffer NoList 0 (ltb c.args.room n)) size)

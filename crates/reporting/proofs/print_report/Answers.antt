@@ -15,8 +15,9 @@ put_report-requires c = omega (arith, report-longest _ c.in-Ok.account.consisten
 pub returns-in-Ok : goal.returns-in-Ok
 returns-in-Ok c =
     let s = c.args.log.now in
-    let accepted : verdict s ≡ Ok tt = rw (← c.in-Ok.ensures) c.in-Ok.account.accepted in
-    prints_text report_text 2494 s c.args.buf.now c.put_report.result c.put_report.new.buf accepted (report-longest _ (rw c.in-Ok.ensures at c.in-Ok.account.consistent)) (rw c.in-Ok.ensures at c.put_report.ensures)
+    let own = rw c.in-Ok.is at c.judge_log.ensures in
+    let accepted : verdict s ≡ Ok tt = rw (← own) c.in-Ok.account.accepted in
+    prints_text report_text 2494 s c.args.buf.now c.put_report.result c.put_report.new.buf accepted (report-longest _ (rw own at c.in-Ok.account.consistent)) (rw own at c.put_report.ensures)
 
 pub returns-in-Err : goal.returns-in-Err
-returns-in-Err c = prints_refused report_text 2494 c.args.log.now c.args.buf.now c.put_refused_line.result c.put_refused_line.new.buf _ c.in-Err.ensures c.put_refused_line.ensures (lit≤ tt)
+returns-in-Err c = prints_refused report_text 2494 c.args.log.now c.args.buf.now c.put_refused_line.result c.put_refused_line.new.buf _ (rw c.in-Err.is at c.judge_log.ensures) c.put_refused_line.ensures (lit≤ tt)

@@ -11,19 +11,21 @@ use Rattle.reporting.proofs.Reporting.{room_refused, room_short, room_enough, wr
 use Rattle.reporting.proofs.write_report.Goals as goal
 
 pub returns-in_default : goal.returns-in_default
-returns-in_default c = written_none c.args.log.now c.args.buf.now _ (room_refused report_text c.args.log.now (length c.args.buf.now) _ c.in_default.ensures)
+returns-in_default c = written_none c.args.log.now c.args.buf.now _ (room_refused report_text c.args.log.now (length c.args.buf.now) _ (rw c.in_default.is at c.judge_log-judged.ensures))
 
 pub returns-then-buf-report_length : goal.returns-then-buf-report_length
 returns-then-buf-report_length c =
     let s = c.args.log.now in
-    let accepted : verdict s ≡ Ok tt = rw (← c.in-Ok.ensures) c.in-Ok.account.accepted in
-    let size = rw c.in-Ok.ensures at c.report_length.ensures in
+    let own = rw c.in-Ok.is at c.judge_log-judged.ensures in
+    let accepted : verdict s ≡ Ok tt = rw (← own) c.in-Ok.account.accepted in
+    let size = rw own at c.report_length.ensures in
     written_none s c.args.buf.now _ (room_short report_text s (length c.args.buf.now) accepted (rw (← size) c.if-buf-report_length.true))
 
 pub returns : goal.returns
 returns c =
     let s = c.args.log.now in
-    let accepted : verdict s ≡ Ok tt = rw (← c.in-Ok.ensures) c.in-Ok.account.accepted in
-    let size = rw c.in-Ok.ensures at c.report_length.ensures in
+    let own = rw c.in-Ok.is at c.judge_log-judged.ensures in
+    let accepted : verdict s ≡ Ok tt = rw (← own) c.in-Ok.account.accepted in
+    let size = rw own at c.report_length.ensures in
     let fits : length (report_text (decode s)) ≤ length c.args.buf.now = rw (← size) c.if-buf-report_length.false in
-    written_all s c.args.buf.now c.put_report.result c.put_report.new.buf (rw c.in-Ok.ensures at c.in-Ok.account.consistent) (room_enough report_text s (length c.args.buf.now) accepted fits) fits (rw c.in-Ok.ensures at c.put_report.ensures)
+    written_all s c.args.buf.now c.put_report.result c.put_report.new.buf (rw own at c.in-Ok.account.consistent) (room_enough report_text s (length c.args.buf.now) accepted fits) fits (rw own at c.put_report.ensures)
