@@ -26,6 +26,15 @@ use Rattle.judging.specs.Working.{WorkingTotals, Grounded, Consistent}
 use Rattle.judging.proofs.Bounds.{good-period, good-modules, good-counts}
 use Rattle.judging.proofs.Accepted.{consistent, none_over, sums_never}
 
+-- a log's state records meet no ground, and its standards and unit records meet none
+abbrev pub StatesPass : List ℕ → Type 0
+StatesPass s = state_grounds (header_of s).period (header_of s).modules (up_to (state_at s) (header_of s).states) ≡ Ok tt
+
+abbrev pub UnitsPass : List ℕ → Type 0
+UnitsPass s =
+    (standard_grounds (header_of s).period (header_of s).modules (up_to (standard_at s (header_of s)) (header_of s).standards)
+    then unit_grounds (header_of s).period (header_of s).modules (up_to (standard_at s (header_of s)) (header_of s).standards) (up_to (unit_at s (header_of s)) (header_of s).units)) ≡ Ok tt
+
 -- what an accepted header tells, of a log of n bytes
 pub record Counted (n : ℕ) (h : Header) : Type 0 where
   pub period : (0 < h.period) × (h.period ≤ 31622400000)
