@@ -3,10 +3,13 @@
 // answered, by `match` and not by `?`, which copies its 4.6 KB twice.
 #![tactic(auto)]
 
-ghost use Rattle.std.specs.Prelude.{◌≡◌, ◌<◌};
+ghost use Rattle.std.specs.Prelude.{◌≡◌, ◌<◌, leb};
 ghost use Rattle.std.specs.Result.{MatchResult};
 ghost use Rattle.std.specs.declared.result.Result.TheVariants.{Err};
 ghost use Rattle.records.specs.Log.{decode};
+ghost use Rattle.rules.specs.declared.Ground.TheVariants.{StrayModule};
+ghost use Rattle.rules.specs.declared.LogList.TheVariants.{NoList};
+ghost use Rattle.rules.specs.Grounds.{ground};
 ghost use Rattle.rules.specs.Verdict.{verdict_on};
 ghost use Rattle.answering.specs.Calls.{ModuleTimes, ToolTimes, ModuleQuantities, ToolQuantities, ModuleFigures, ToolFigures, ModuleLosses, ToolLosses};
 
@@ -15,23 +18,31 @@ use judging::Account;
 use losses::Losses;
 use rules::{Ground, LogList, Refusal, StateTimes};
 
-// The account of an accepted log that has module m: one that it does not have is stray. Every call about a module starts from it.
+// A module that the log of an account does not have is stray.
+fn test_module(account: &Account<'_>, m: usize) -> Result<(), Refusal>
+    ensures { result ≡ ground StrayModule NoList m (leb (decode account.now.log.bytes.now).modules m) }
+{
+    Ground::StrayModule.refuses(account.modules() <= m, LogList::NoList, m)
+}
+
+// The account of an accepted log that has module m, handed out.
 pub fn judge_module(log: &[u8], m: usize) -> Result<Account<'_>, Refusal>
     ensures { MatchResult result (λ a. (a.log.bytes ≡ log.entry) × (m < (decode log.entry.now).modules)) (λ x. verdict_on log.entry.now m ≡ Err x) }
 {
-    let judged = judging::judge_log(log);
-    if let Ok(account) = &judged {
-        Ground::StrayModule.refuses(account.modules() <= m, LogList::NoList, m)?;
-    }
-    judged
+    let account = judging::judge_log(log)?;
+    test_module(&account, m)?;
+    Ok(account)
 }
 
 // The six state times of module m.
 pub fn module_state_times(log: &[u8], m: usize) -> Result<StateTimes, Refusal>
     ensures { ModuleTimes log.now m result }
 {
-    match &judge_module(log, m) {
-        Ok(account) => Ok(account.module_times(m)),
+    match &judging::judge_log(log) {
+        Ok(account) => {
+            test_module(account, m)?;
+            Ok(account.module_times(m))
+        }
         Err(x) => Err(*x),
     }
 }
@@ -50,8 +61,11 @@ pub fn tool_state_times(log: &[u8]) -> Result<StateTimes, Refusal>
 pub fn module_quantities(log: &[u8], m: usize) -> Result<Quantities, Refusal>
     ensures { ModuleQuantities log.now m result }
 {
-    match &judge_module(log, m) {
-        Ok(account) => Ok(account.module_quantities(m)),
+    match &judging::judge_log(log) {
+        Ok(account) => {
+            test_module(account, m)?;
+            Ok(account.module_quantities(m))
+        }
         Err(x) => Err(*x),
     }
 }
@@ -70,8 +84,11 @@ pub fn tool_quantities(log: &[u8]) -> Result<Quantities, Refusal>
 pub fn module_figures(log: &[u8], m: usize) -> Result<Figures, Refusal>
     ensures { ModuleFigures log.now m result }
 {
-    match &judge_module(log, m) {
-        Ok(account) => Ok(e79::figures_of_ordered(account.module_quantities(m))),
+    match &judging::judge_log(log) {
+        Ok(account) => {
+            test_module(account, m)?;
+            Ok(e79::figures_of_ordered(account.module_quantities(m)))
+        }
         Err(x) => Err(*x),
     }
 }
@@ -90,8 +107,11 @@ pub fn tool_figures(log: &[u8]) -> Result<Figures, Refusal>
 pub fn module_losses(log: &[u8], m: usize) -> Result<Losses, Refusal>
     ensures { ModuleLosses log.now m result }
 {
-    match &judge_module(log, m) {
-        Ok(account) => Ok(losses::losses_of_ordered(account.module_quantities(m))),
+    match &judging::judge_log(log) {
+        Ok(account) => {
+            test_module(account, m)?;
+            Ok(losses::losses_of_ordered(account.module_quantities(m)))
+        }
         Err(x) => Err(*x),
     }
 }

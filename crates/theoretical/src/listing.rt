@@ -115,8 +115,9 @@ impl Entries {
         self.starts[i] <= time && self.pairs[i] == pair_of(module, recipe)
     }
 
-    // How many of the first `from` entries are left where those behind start after the time. Four at a step: a walk of one at a step took up to twice as long
-    // where its few instructions were laid across a line.
+    // How many of the first `from` entries are left where those behind start after the time, four at a step: a walk of one at a step took up to twice as long where
+    // its few instructions were laid across a line. Apart from the look-up, which seldom comes here.
+    #[inline(never)]
     fn pass_later(&self, from: usize, time: u64) -> usize
         requires { from ≤ 512 }
         ensures within { result ≤ from }
@@ -134,14 +135,28 @@ impl Entries {
         left
     }
 
+    // The same for a walk that goes far; one that ends near begins where it is.
+    #[inline(always)]
+    fn pass_far(&self, from: usize, time: u64) -> usize
+        requires { from ≤ 512 }
+        ensures within { result ≤ from }
+        ensures later { (i : ℕ) → result ≤ i → i < from → time < get_or self.now.starts i 0 }
+    {
+        if 16 <= from && time < self.starts[from - 16] {
+            self.pass_later(from, time)
+        } else {
+            from
+        }
+    }
+
     // The walk over the first `from` entries, from the last of them towards the front: the first on the way that is for the module and the recipe and starts at or
-    // before the time, or none. Not inlined: nearly every look-up ends ahead of it, and is slower with it.
-    #[inline(never)]
+    // before the time, or none.
+    #[inline(always)]
     fn last_begun(&self, from: usize, module: usize, recipe: usize, time: u64) -> Option<Placed>
         requires { (from ≤ 512) × («module» < 64) × (recipe < 1024) }
         ensures { result ≡ found (last_in_force (listed self.now from) «module» recipe time) }
     {
-        let left = self.pass_later(from, time);
+        let left = self.pass_far(from, time);
         for index in (0..left).rev() {
             if self.has_begun(index, module, recipe, time) {
                 return Some(self.entry(index).placed(index));
@@ -246,6 +261,7 @@ impl Standards {
 
     // The last standard of the list, rising or not, that is for the module and the recipe and starts at or before the time, or none. Nearly always the last that is
     // for them has begun, and else the walk goes on from there.
+    #[inline(always)]
     pub fn look_up(&self, module: usize, recipe: usize, time: u64) -> Option<Placed>
         requires { («module» < 64) × (recipe < 1024) }
         ensures { result ≡ found (last_in_force self.now «module» recipe time) }

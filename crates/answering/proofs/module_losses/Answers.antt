@@ -1,6 +1,6 @@
 -- `answering::module_losses` meets its contract: an accepted log's account has the losses of a module that it has.
 -- Assumes nothing.
-use mathlib.Core.Path.{◌≡◌, ap, ◌∙◌}
+use mathlib.Core.Path.{◌≡◌, sym, ap, ◌∙◌}
 use native.Mathlib.Omega.{arith}
 use Rattle.std.specs.declared.result.Result.TheVariants.{Ok, Err}
 use Rattle.records.specs.Log.{decode}
@@ -8,18 +8,27 @@ use Rattle.losses.specs.Losses.{losses_of, AddsUp}
 use Rattle.losses.proofs.AddUp.{adds_up}
 use Rattle.rules.specs.Quantities.{of_module}
 use Rattle.rules.specs.Verdict.{verdict}
-use Rattle.answering.proofs.Answers.{module_refused, module_answered}
+use Rattle.answering.proofs.Answers.{refused-on, accepted-on, known-module, module_refused, module_answered}
 use Rattle.answering.proofs.module_losses.Goals as goal
 
 pub returns-in-Err : goal.returns-in-Err
 returns-in-Err c =
     let s = c.args.log.now in
-    module_refused s (losses_of (of_module (decode s) c.args.m)) (AddsUp (of_module (decode s) c.args.m)) c.args.m _ (rw c.in-Err.is at c.judge_module.ensures)
+    module_refused s (losses_of (of_module (decode s) c.args.m)) (AddsUp (of_module (decode s) c.args.m)) c.args.m _ (refused-on s c.args.m _ (rw c.in-Err.is at c.judge_log.ensures))
 
-pub returns-in-Ok : goal.returns-in-Ok
-returns-in-Ok c =
+pub returns-in_err-test_module-in-Ok : goal.returns-in_err-test_module-in-Ok
+returns-in_err-test_module-in-Ok c =
     let s = c.args.log.now in
-    let own = rw c.in-Ok.is at c.judge_module.ensures in
-    let accepted : verdict s ≡ Ok tt = rw (← own.0) c.in-Ok.account.accepted in
-    let consistent = rw own.0 at c.in-Ok.account.consistent in
-    module_answered s (losses_of (of_module (decode s) c.args.m)) (AddsUp (of_module (decode s) c.args.m)) c.args.m _ accepted own.1 (c.losses_of_ordered.ensures.losses ∙ ap losses_of (rw own.0 at c.module_quantities.ensures)) (adds_up _ (consistent.each c.args.m own.1))
+    let own = rw c.in-Ok.is at c.judge_log.ensures in
+    let accepted : verdict s ≡ Ok tt = rw (← own) c.in-Ok.account.accepted in
+    let err : c.from_residual.result ≡ Err c.in_err-test_module-in-Ok.field-0.0 = grind arith in
+    rw err (module_refused s (losses_of (of_module (decode s) c.args.m)) (AddsUp (of_module (decode s) c.args.m)) c.args.m _ (accepted-on s c.args.m accepted ∙ sym (rw own at c.test_module.ensures) ∙ c.in_err-test_module-in-Ok.was))
+
+pub returns-in_ok-test_module-in-Ok : goal.returns-in_ok-test_module-in-Ok
+returns-in_ok-test_module-in-Ok c =
+    let s = c.args.log.now in
+    let own = rw c.in-Ok.is at c.judge_log.ensures in
+    let accepted : verdict s ≡ Ok tt = rw (← own) c.in-Ok.account.accepted in
+    let has = known-module s c.args.m (sym (rw own at c.test_module.ensures) ∙ c.in_ok-test_module-in-Ok.was) in
+    let consistent = rw own at c.in-Ok.account.consistent in
+    module_answered s (losses_of (of_module (decode s) c.args.m)) (AddsUp (of_module (decode s) c.args.m)) c.args.m _ accepted has (c.losses_of_ordered.ensures.losses ∙ ap losses_of (rw own at c.module_quantities.ensures)) (adds_up _ (consistent.each c.args.m has))

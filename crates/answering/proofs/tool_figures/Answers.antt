@@ -1,8 +1,5 @@
 -- `answering::tool_figures` meets its contract: an accepted log's account has the doubles of the tool.
 -- Assumes nothing.
-use mathlib.Core.Path.{◌≡◌}
-use native.Mathlib.Omega.{arith}
-use Rattle.std.specs.declared.result.Result.TheVariants.{Err}
 use Rattle.records.specs.Log.{decode}
 use Rattle.e79.specs.Doubles.{figures_of}
 use Rattle.e79.specs.Accuracy.{Accurate}

@@ -1,8 +1,5 @@
 -- `answering::tool_losses` meets its contract: an accepted log's account has the losses of the tool.
 -- Assumes nothing.
-use mathlib.Core.Path.{◌≡◌}
-use native.Mathlib.Omega.{arith}
-use Rattle.std.specs.declared.result.Result.TheVariants.{Err}
 use Rattle.records.specs.Log.{decode}
 use Rattle.losses.specs.Losses.{losses_of, AddsUp}
 use Rattle.rules.specs.Quantities.{of_tool}

@@ -1,8 +1,7 @@
 -- `answering::tool_quantities` meets its contract: an accepted log's account has the five quantities of the tool.
 -- Assumes nothing.
 use mathlib.Core.Path.{◌≡◌}
-use native.Mathlib.Omega.{arith}
-use Rattle.std.specs.declared.result.Result.TheVariants.{Ok, Err}
+use Rattle.std.specs.declared.result.Result.TheVariants.{Ok}
 use Rattle.records.specs.Log.{decode}
 use Rattle.e79.specs.Quantities.{Ordered}
 use Rattle.rules.specs.Quantities.{of_tool}

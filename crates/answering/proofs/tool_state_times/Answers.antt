@@ -1,8 +1,7 @@
 -- `answering::tool_state_times` meets its contract: an accepted log's account has the six times of the tool.
 -- Assumes nothing.
 use mathlib.Core.Path.{◌≡◌}
-use native.Mathlib.Omega.{arith}
-use Rattle.std.specs.declared.result.Result.TheVariants.{Ok, Err}
+use Rattle.std.specs.declared.result.Result.TheVariants.{Ok}
 use Rattle.records.specs.Log.{decode}
 use Rattle.rules.specs.Quantities.{all_times, tool_times, of_tool}
 use Rattle.rules.specs.Verdict.{verdict}

@@ -18,10 +18,10 @@ returns-then-has_begun c =
 
 pub loop-index-init : goal.loop-index-init
 loop-index-init c =
-    let e : c.pass_later-left.result + (c.args.from - c.pass_later-left.result) ≡ c.args.from = omega (arith, c.pass_later-left.ensures.within) in
-    later c.args.«module» c.args.recipe c.args.time (λ i. standard_of (entry_of c.args.self.now i)) c.args.from (c.args.from - c.pass_later-left.result) c.pass_later-left.result
+    let e : c.pass_far-left.result + (c.args.from - c.pass_far-left.result) ≡ c.args.from = omega (arith, c.pass_far-left.ensures.within) in
+    later c.args.«module» c.args.recipe c.args.time (λ i. standard_of (entry_of c.args.self.now i)) c.args.from (c.args.from - c.pass_far-left.result) c.pass_far-left.result
     (rw e record { within = omega arith; same = refl })
-    (λ i a b. c.pass_later-left.ensures.later i a (rw (← e) b))
+    (λ i a b. c.pass_far-left.ensures.later i a (rw (← e) b))
 
 pub loop-index-preserved : goal.loop-index-preserved
 loop-index-preserved c =
