@@ -135,14 +135,17 @@ impl Entries {
         left
     }
 
-    // The same for a walk that goes far; one that ends near begins where it is.
+    // The same for a walk that goes far, among the revisions of one module and recipe; another begins where it is.
     #[inline(always)]
-    fn pass_far(&self, from: usize, time: u64) -> usize
-        requires { from ≤ 512 }
+    fn pass_far(&self, from: usize, module: usize, recipe: usize, time: u64) -> usize
+        requires { (from ≤ 512) × («module» < 64) × (recipe < 1024) }
         ensures within { result ≤ from }
         ensures later { (i : ℕ) → result ≤ i → i < from → time < get_or self.now.starts i 0 }
     {
-        if 16 <= from && time < self.starts[from - 16] {
+        if 16 <= from
+            && self.pairs[from - 16] == pair_of(module, recipe)
+            && time < self.starts[from - 16]
+        {
             self.pass_later(from, time)
         } else {
             from
@@ -156,7 +159,7 @@ impl Entries {
         requires { (from ≤ 512) × («module» < 64) × (recipe < 1024) }
         ensures { result ≡ found (last_in_force (listed self.now from) «module» recipe time) }
     {
-        let left = self.pass_far(from, time);
+        let left = self.pass_far(from, module, recipe, time);
         for index in (0..left).rev() {
             if self.has_begun(index, module, recipe, time) {
                 return Some(self.entry(index).placed(index));
