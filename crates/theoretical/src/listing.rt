@@ -115,8 +115,8 @@ impl Entries {
         self.starts[i] <= time && self.pairs[i] == pair_of(module, recipe)
     }
 
-    // How many of the first `from` entries are left where those behind start after the time, four at a step: a walk of one at a step took up to twice as long where
-    // its few instructions were laid across a line. Apart from the look-up, which seldom comes here.
+    // How many of the first `from` entries are left where those behind start after the time, four at a step: a walk of one at a step took up to 2.6 times as
+    // long where its few instructions were laid across a line. Apart from the look-up, which seldom comes here.
     #[inline(never)]
     fn pass_later(&self, from: usize, time: u64) -> usize
         requires { from ≤ 512 }
@@ -165,7 +165,7 @@ impl Entries {
                 return Some(self.entry(index).placed(index));
             }
         }
-        None
+        None // none that is for them has begun
     }
 }
 
