@@ -1,8 +1,6 @@
 -- `parsing::parse_number` meets its contract: a decimal is what std reads and `report` puts again. Assumes nothing.
-use Rattle.std.proofs.Common.{◌≡◌, Some, length, arith, sym, ap, ◌∙◌}
-use Rattle.std.proofs.lemmas.Bool.{false≢true}
-use Rattle.std.proofs.lemmas.Bool.Decides.{Decides-eqb}
-use Rattle.std.proofs.lemmas.Slice.Eq.{slice_eq-Decides}
+use Rattle.std.proofs.Common.{◌≡◌, Some, length, take, arith, sym, ap, ◌∙◌}
+use Rattle.std.specs.Cmp.Lexicographic.{same_text, other_text}
 use Rattle.filling.proofs.Written.{front-text}
 use Rattle.report.specs.Report.{decimal}
 use Rattle.parsing.proofs.Decimal.{few, front}
@@ -23,11 +21,14 @@ slice_bounds-eq-end c = (front (omega arith) c.put_decimal-size.ensures).part
 pub returns-then-eq : goal.returns-then-eq
 returns-then-eq c =
     let put = front-text (front (omega arith) c.put_decimal-size.ensures) in
-    sym ((slice_eq-Decides Decides-eqb _ _ _ c.eq.ensures).0 c.if-eq.true) ∙ put
+    let same = same_text (take c.put_decimal-size.result c.put_decimal-size.new.buf) _ (sym c.if-eq.true ∙ c.eq.ensures) in
+    grind (arith, put, same)
 
 pub returns-else-eq : goal.returns-else-eq
 returns-else-eq c m h e =
     let put = front-text (front (omega arith) c.put_decimal-size.ensures) in
     let q : Some m ≡ Some c.in_ok-n.n = grind (arith, c.read.ensures.decimal m h e) in
     let same : m ≡ c.in_ok-n.n = cc in
-    false≢true (sym c.if-eq.false ∙ (slice_eq-Decides Decides-eqb _ _ _ c.eq.ensures).1 (put ∙ sym (e ∙ ap decimal same)))
+    let text : c.args.text.now ≡ decimal c.in_ok-n.n = e ∙ ap decimal same in
+    let other = other_text (take c.put_decimal-size.result c.put_decimal-size.new.buf) _ (sym c.if-eq.false ∙ c.eq.ensures) in
+    grind (arith, put, text, other)
