@@ -1,14 +1,14 @@
 -- `reporting::put_report` meets its contract: the heading, the modules' lines and the tool's line are put one behind the other.
 -- Assumes nothing.
-use mathlib.Core.Path.{ap}
 use mathlib.Core.List.{List}
 use Prim.Native.Nat.{ℕ}
+use native.Mathlib.Omega.{arith}
 use Rattle.records.specs.Log.{Log, decode}
 use Rattle.rules.specs.Quantities.{of_module, of_tool}
 use Rattle.report.specs.Report.{heading, module_line, tool_line, report_of}
 use Rattle.report.proofs.Lengths.{heading-length}
 use Rattle.report.proofs.Tables.{head_room, lines_room, last_room, all_put}
-use Rattle.filling.proofs.Written.{read_as}
+use Rattle.filling.specs.Buffer.{Put}
 use Rattle.judging.proofs.Accepted.{tool_ordered}
 use Rattle.reporting.specs.Reports.{report_text}
 use Rattle.reporting.proofs.put_report.Goals as goal
@@ -33,14 +33,17 @@ put_lines-tool-requires c =
     lines_room heading (line l) l.modules (last l) c.args.buf.now c.requires p.result p.new.buf p.ensures
 
 pub put_tool_line-requires-clause-ordered : goal.put_tool_line-requires-clause-ordered
-put_tool_line-requires-clause-ordered c = rw c.tool_quantities.ensures (tool_ordered _ c.args.account.now.consistent)
+put_tool_line-requires-clause-ordered c =
+    let ordered = tool_ordered (decode c.args.account.now.log.bytes.now) c.args.account.now.consistent in
+    grind (arith, ordered)
 
 pub put_tool_line-requires-clause-q_in_bounds : goal.put_tool_line-requires-clause-q_in_bounds
 unfolding report_text report_of
 put_tool_line-requires-clause-q_in_bounds c =
     let p = c.put_heading-lines in
     let l = decode c.args.account.now.log.bytes.now in
-    rw c.tool_quantities.ensures (last_room heading (line l) l.modules (last l) c.args.buf.now c.requires p.result c.put_lines-tool.result p.new.buf c.put_lines-tool.new.buf p.ensures c.put_lines-tool.ensures)
+    let room = last_room heading (line l) l.modules (last l) c.args.buf.now c.requires p.result c.put_lines-tool.result p.new.buf c.put_lines-tool.new.buf p.ensures c.put_lines-tool.ensures in
+    grind (arith, room)
 
 pub returns : goal.returns
 unfolding report_text report_of
@@ -48,5 +51,5 @@ returns c =
     let p = c.put_heading-lines in
     let q = c.put_tool_line in
     let l = decode c.args.account.now.log.bytes.now in
-    all_put heading (line l) l.modules (last l) c.args.buf.now c.requires p.result c.put_lines-tool.result q.result p.new.buf c.put_lines-tool.new.buf q.new.buf p.ensures c.put_lines-tool.ensures
-    (read_as (ap tool_line c.tool_quantities.ensures) q.ensures)
+    let tool : Put (last l) c.put_lines-tool.new.buf c.put_lines-tool.result q.result q.new.buf = grind (arith, q.ensures) in
+    all_put heading (line l) l.modules (last l) c.args.buf.now c.requires p.result c.put_lines-tool.result q.result p.new.buf c.put_lines-tool.new.buf q.new.buf p.ensures c.put_lines-tool.ensures tool

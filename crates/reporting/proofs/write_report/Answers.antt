@@ -2,6 +2,7 @@
 -- Assumes nothing.
 use mathlib.Core.Path.{◌≡◌}
 use Prim.Native.Nat.{◌≤◌}
+use native.Mathlib.Omega.{arith}
 use lib.ListN.{length}
 use Rattle.std.specs.declared.result.Result.TheVariants.{Ok}
 use Rattle.records.specs.Log.{decode}
@@ -11,7 +12,9 @@ use Rattle.reporting.proofs.Reporting.{room_refused, room_short, room_enough, wr
 use Rattle.reporting.proofs.write_report.Goals as goal
 
 pub returns-in_default : goal.returns-in_default
-returns-in_default c = written_none c.args.log.now c.args.buf.now _ (room_refused report_text c.args.log.now (length c.args.buf.now) _ (rw c.in_default.is at c.judge_log-judged.ensures))
+returns-in_default c =
+    let none = written_none c.args.log.now c.args.buf.now _ (room_refused report_text c.args.log.now (length c.args.buf.now) c.in_default.field-0 (rw c.in_default.is at c.judge_log-judged.ensures)) in
+    grind (arith, none)
 
 pub returns-then-buf-report_length : goal.returns-then-buf-report_length
 returns-then-buf-report_length c =

@@ -4,6 +4,7 @@ use mathlib.Core.Path.{refl, sym, ◌∙◌}
 use native.Mathlib.Omega.{arith}
 use Prim.Native.Nat.{◌<◌}
 use borrow.Author.Tests.{leb-false, lt-ltb}
+use Rattle.std.proofs.lemmas.Bool.Decides.{nat_tests}
 use Rattle.std.proofs.lemmas.Result.{err_from_is_err_and}
 use Rattle.records.specs.Log.{up_to, unit_at}
 use Rattle.records.proofs.UpTo.{up_to_more}
@@ -50,7 +51,7 @@ returns-in_err-refuses-clause-answer c =
     let tests = unit_by_number c.args.log.header.period c.args.log.header.modules c.args.standards.now (up_to (unit_at c.args.log.bytes.now c.args.log.header) c.args.i) c.args.i c.args.before.now c.record_from-u.result w.0 c.requires.sequenced in
     let one = one_in_force c.args.standards.now c.requires.rising c.record_from-u.result.«module» c.record_from-u.result.recipe c.record_from-u.result.time c.in-Some.p c.in-Some.ensures in
     let p = err_from_is_err_and c.from_residual-in_err-refuses.result c.from_residual-in_err-refuses.ensures.1 in
-    rw (p.1, p.2, ← reads, tests, ← c.in_ok-test_unit.ensures, one, ← c.unit_number-number.ensures) c.in_err-refuses.ensures
+    rw (p.1, p.2, ← reads, tests, ← c.in_ok-test_unit.ensures, one, ← c.unit_number-number.ensures) (grind (arith, nat_tests, c.in_err-refuses.ensures))
 
 pub credit-requires : goal.credit-requires
 credit-requires c =
@@ -80,7 +81,7 @@ returns-clause-answer c =
     let w = widths c.args.log.bytes.now c.args.log.header c.args.i c.args.byte c.record_from-u.result c.record_from-u.ensures c.requires.i_bound.2 in
     let tests = unit_by_number c.args.log.header.period c.args.log.header.modules c.args.standards.now (up_to (unit_at c.args.log.bytes.now c.args.log.header) c.args.i) c.args.i c.args.before.now c.record_from-u.result w.0 c.requires.sequenced in
     let one = one_in_force c.args.standards.now c.requires.rising c.record_from-u.result.«module» c.record_from-u.result.recipe c.record_from-u.result.time c.in-Some.p c.in-Some.ensures in
-    rw (← reads, tests, ← c.in_ok-test_unit.ensures, one, ← c.unit_number-number.ensures) c.in_ok-refuses.ensures
+    rw (← reads, tests, ← c.in_ok-test_unit.ensures, one, ← c.unit_number-number.ensures) (grind (arith, nat_tests, c.in_ok-refuses.ensures))
 
 pub returns-clause-sequenced : goal.returns-clause-sequenced
 returns-clause-sequenced c =
